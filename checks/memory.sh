@@ -3,7 +3,8 @@
 # alone, and once more where all behind it fail too. Each run has to print the right rows, or whole lines from their head
 # and then `memory` with status 1.
 # Before that it counts the allocations of runs over a table of 1,000 rows that print more or fewer rows, or call the scorer
-# more or less often: a printed row takes its values alone, and a call with numbers none.
+# more or less often: a printed row takes its values alone, and a call with numbers none. A row that a condition on texts is
+# tested on takes none either.
 # A join by a hash and a union are executed by the program cases_plans, whichever plan `run` would choose. That program
 # tells its input line by line, and names the line at which there is no memory, if it had begun with one.
 # Scripts may be named: checks/memory.sh NAME.., and with none all are run.
@@ -309,6 +310,35 @@ SQL
     allocations=$(cat count)
 }
 
+# What a query over the films takes whose condition looks at texts, beyond one whose condition looks at numbers. Both conditions
+# hold of each film, so as many rows are tested, and as many are kept.
+# compare_conditions NAME WORD [SEED]
+compare_conditions() {
+    local name=$1 numbers
+    shift
+    for of in numbers texts; do
+        {
+            head -n 2 rows.sql
+            case $of in
+                numbers) echo "SELECT year FROM films WHERE rating <> 1000 AND rating + 1 > 0 ORDER BY level(rating) LIMIT 1;" ;;
+                texts) echo "SELECT year FROM films WHERE title <> 'Film' AND title > 'E' ORDER BY level(rating) LIMIT 1;" ;;
+            esac
+        } >tested.sql
+        LD_PRELOAD="$work/refuse.so" REFUSE_FIRST=0 REFUSE_COUNT="$work/count" "$program" "$1" tested.sql ${2:+"$2"} >out 2>err
+        if [ "$(wc -l <out)" -ne 1 ] || [ -s err ]; then
+            echo "FAILED  $name prints $(wc -l <out) rows"
+            exit 1
+        fi
+        [ "$of" = numbers ] && numbers=$(cat count)
+    done
+    local more=$(($(cat count) - numbers))
+    echo "$name: $more allocations more for conditions on texts"
+    if [ "$more" -gt "$MOST_GROWN" ] || [ "$more" -lt "-$MOST_GROWN" ]; then
+        echo "FAILED  $name: a tested row takes memory"
+        failures=$((failures + 1))
+    fi
+}
+
 # What a query over the films takes beyond another one, less what the values of its rows take: a list and a text for each.
 # A kept list that grows is moved now and then to a place of twice the size, which is the most that may be left.
 # compare NAME INDEX ORDER LIMIT ORDER LIMIT
@@ -330,6 +360,8 @@ MOST_GROWN=40
 compare rows '' 'rated(rating)' 10 'rated(rating)' 100
 compare index 'CREATE RANK INDEX by_rated ON films (rated(rating));' '2 * rated(rating) + recent(year)' 10 '2 * rated(rating) + recent(year)' 100
 compare calls '' 'level(rating)' 10 'level(rating) + recent(year)' 10
+compare_conditions tested_plainly plain
+compare_conditions tested_by_plans run 1
 
 names=(join union ready plan first tables forms nested cursors)
 if [ $# -gt 0 ]; then

@@ -329,8 +329,8 @@ class Block:
     def most(self, term):
         return self.predicate(term).most
 
-    def worth(self, rows, term):
-        return max(0, min(self.most(term), self.run.answer(*self.call(rows, term))))
+    def worth(self, rows, term, answer):
+        return max(0, min(self.most(term), answer(*self.call(rows, term))))
 
     @functools.lru_cache(None)
     def sampled_choices(self, entries):
@@ -372,7 +372,15 @@ class Block:
 
     @functools.lru_cache(None)
     def bound(self, rows, terms):
-        return sum(w * (self.worth(rows, t) if t in terms else self.most(t)) for t, (w, *_) in enumerate(self.terms))
+        return self.bound_by(self.run.answer, rows, terms)
+
+    @functools.lru_cache(None)
+    def sampled_bound(self, rows, terms):
+        """The same of a row of the sample, as the sample is scored."""
+        return self.bound_by(self.run.sampled_answer, rows, terms)
+
+    def bound_by(self, answer, rows, terms):
+        return sum(w * (self.worth(rows, t, answer) if t in terms else self.most(t)) for t, (w, *_) in enumerate(self.terms))
 
     def key(self, rows, terms):
         return -self.bound(rows, terms), self.number, rows
@@ -408,19 +416,19 @@ class Block:
         sizes = math.prod(len(table.rows) for table in self.tables)
         wanted = (10 if self.limit is None else self.limit) * math.prod(map(len, self.samples))
         place = max(1, -(-wanted // sizes) if sizes else 0)
-        scores = sorted((self.bound(rows, self.every) for rows in self.sampled(self.all)), reverse=True)
+        scores = sorted((self.sampled_bound(rows, self.every) for rows in self.sampled(self.all)), reverse=True)
         return scores[place - 1] if place <= len(scores) else 0
 
     @functools.lru_cache(None)
     def estimate(self, entries, terms):
-        return self.scaled(entries, sum(self.bound(rows, terms) >= self.cutoff for rows in self.sampled(entries)))
+        return self.scaled(entries, sum(self.sampled_bound(rows, terms) >= self.cutoff for rows in self.sampled(entries)))
 
     def expected(self, terms):
         return self.estimate(self.all, terms)
 
     def index_estimate(self, entry, term):
         own = frozenset([entry])
-        return self.scaled(own, sum(self.bound(rows, frozenset([term])) >= self.cutoff for rows in self.sampled_choices(own)))
+        return self.scaled(own, sum(self.sampled_bound(rows, frozenset([term])) >= self.cutoff for rows in self.sampled_choices(own)))
 
     # -- the least plan
 

@@ -1,5 +1,5 @@
 #!/usr/bin/env python3
-"""Works out what the words `top`, `run`, `plain` and `gen` do in the cases of the program cases_runs whose files it can read, from the definitions.
+"""Works out what the words `top`, `run`, `plain` and `gen` and the lines `guess` do in the cases of the program cases_runs whose files it can read, from the definitions.
 
 Queries, their plans and their calls are those of queries.py. The cases that it can't read stay as they are: those in which a
 name, a type or a file of a script is refused, and words of no form. Of refused scripts it reads those that pass a limit or
@@ -95,8 +95,8 @@ def refusal(text):
 
 
 class Run:
-    def __init__(self, files, scores, fails, seed):
-        self.files, self.scores, self.fails, self.seed = files, scores, fails, seed
+    def __init__(self, files, scores, fails, seed, guesses=False):
+        self.files, self.scores, self.fails, self.seed, self.guesses = files, scores, fails, seed, guesses
         self.sampled, self.indexed, self.first = 0, 0, None
         self.tables, self.predicates, self.indexes, self.index_names, self.cursors = {}, {}, set(), set(), {}
         self.made, self.put, self.fetched, self.puts = [], "", [], 0
@@ -104,6 +104,13 @@ class Run:
     def answer(self, predicate, args):
         if (predicate, args) in self.scores:
             return self.scores[predicate, args]
+        return self.formula(predicate, args)
+
+    def sampled_answer(self, predicate, args):
+        """What a sample has for a call: what the scorer answers, or by guesses what the formula gives."""
+        return (self.formula if self.guesses else self.answer)(predicate, args)
+
+    def formula(self, predicate, args):
         known = self.predicates[predicate]
         return value(known.formula, lambda _, name: args[known.params.index(name)])
 
@@ -138,6 +145,8 @@ class Run:
         return self.files[name]
 
     def sample(self, query):
+        if self.guesses:
+            return
         begun = len(self.made)
         for call in query.sample_calls():
             self.score(call)
@@ -427,13 +436,14 @@ def main():
         elif word == "fail":
             what, number, *after = rest.split(" ")
             fails[what] = (int(number), int(after[0])) if after else int(number)
-        elif word == "run":
+        elif word in ("run", "guess"):
             old = []
             while at < len(lines) and lines[at].startswith("  "):
                 old.append(lines[at])
                 at += 1
             try:
-                new = list(told(written(rest).split(" "), files, scores, fails)) if can_be_read(rest, old) else old
+                words = rest if word == "run" else f"guess {rest}"
+                new = list(told(written(words).split(" "), files, scores, fails)) if can_be_read(words, old) else old
             except Unread:
                 print(f"unread: {files['s.sql'][len(front):]}", file=sys.stderr)
                 new = old
@@ -446,7 +456,7 @@ READ = "NotUtf8|lex NumberTooWide|lex TooManyTokens|parse TooManyStatements|pars
 
 def can_be_read(words, old):
     """Whether a run of these words can be read, which ended so. Of scripts that are refused, only those that pass a limit can."""
-    if not re.fullmatch(r"top \S+ \S+ \d+ \d+|plain \S+|run \S+ \d+|gen \d+ \d+", words) or "  Usage" in old:
+    if not re.fullmatch(r"top \S+ \S+ \d+ \d+|plain \S+|(run|guess) \S+ \d+|gen \d+ \d+", words) or "  Usage" in old:
         return False
     if words.startswith("top ") or not set(old) & {"  Script", "  Table"}:
         return True
@@ -459,7 +469,7 @@ def told(words, files, scores, fails):
     if word == "gen":
         run = Generated(int(rest[0]), int(rest[1]), scores, fails)
         return run.told(run.script, "gen.sql")
-    run = Run(files, scores, fails, int(rest[1]) if word == "run" else None)
+    run = Run(files, scores, fails, int(rest[1]) if word in ("run", "guess") else None, word == "guess")
     if word == "top":
         return run.told(run.top, rest[0], rest[1], int(rest[2]), int(rest[3]))
     return run.told(run.script, rest[0])

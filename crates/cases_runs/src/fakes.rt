@@ -3,7 +3,7 @@
 use cases_lines::{Fault, read_escaped, read_times};
 use rs_expr::MemScorer;
 use rs_outside::{MemFiles, MemSink};
-use rs_run::{Status, run};
+use rs_run::{Evaluating, Sampling, Status, run, run_file};
 use rs_value::{Memory, Text};
 use std::alloc::Global;
 use std::hash::RandomState;
@@ -101,6 +101,25 @@ impl Fakes {
             ..
         } = self;
         Ok(run(alloc, words, files, scorer, out, err))
+    }
+
+    /// Runs the script of this name by plans that are chosen by guesses, with this seed.
+    pub fn run_by_guesses(
+        &mut self,
+        alloc: Global,
+        script: &Text,
+        seed: u64,
+    ) -> Result<Status, Memory> {
+        self.copy_files(alloc)?;
+        let Fakes {
+            files,
+            scorer,
+            out,
+            err,
+            ..
+        } = self;
+        let evaluating = Evaluating::Planned(Sampling::ByGuesses(seed));
+        Ok(run_file(alloc, evaluating, script, files, scorer, out, err))
     }
 
     /// Makes the files of the next run.

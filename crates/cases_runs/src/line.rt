@@ -2,7 +2,8 @@
 
 use crate::fakes::Fakes;
 use crate::told::tell_run;
-use cases_lines::{Cases, Fault, count_of, cut_word, text_of};
+use cases_lines::{Cases, Fault, count_of, cut_word, number_of, text_of};
+use rs_run::Status;
 use rs_value::{Text, Value, int_of};
 use std::alloc::Global;
 
@@ -11,6 +12,7 @@ impl Cases for Fakes {
         let (word, rest) = cut_word(line);
         match word {
             b"run" => tell_words(alloc, rest, self),
+            b"guess" => tell_guesses(alloc, rest, self),
             _ => {
                 prepare(alloc, word, rest, self)?;
                 Ok(String::new(alloc))
@@ -23,6 +25,19 @@ impl Cases for Fakes {
 fn tell_words(alloc: Global, words: &[u8], fakes: &mut Fakes) -> Result<String, Fault> {
     let words = words_of(alloc, words)?;
     let status = fakes.run(alloc, &words)?;
+    tell_and_forget(alloc, status, fakes)
+}
+
+/// Runs a script by plans that are chosen by guesses, and tells what came of it.
+fn tell_guesses(alloc: Global, rest: &[u8], fakes: &mut Fakes) -> Result<String, Fault> {
+    let (script, seed) = cut_word(rest);
+    let script = text_of(alloc, script)?;
+    let status = fakes.run_by_guesses(alloc, &script, number_of(seed)?)?;
+    tell_and_forget(alloc, status, fakes)
+}
+
+/// Tells what came of a run, which is then forgotten.
+fn tell_and_forget(alloc: Global, status: Status, fakes: &mut Fakes) -> Result<String, Fault> {
     let told = tell_run(alloc, status, fakes)?;
     fakes.forget_run(alloc);
     Ok(told)

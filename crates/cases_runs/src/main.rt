@@ -13,6 +13,7 @@
 //! - `fail out N AFTER`, `fail err N AFTER`: in the next run the Nth put on standard output, on standard error fails
 //!   after this many bytes.
 //! - `run WORD..`: these words are run.
+//! - `guess SCRIPT SEED`: the script is run by plans that are chosen by guesses, with this seed.
 //! - a comment that begins with `#`, or nothing.
 //!
 //! Bytes and words have the escapes of `cases_lines`. In a line `more` `\#` is the number of the time, from 01.

@@ -12,7 +12,7 @@ use Rattle.rs_catalog.specs.declared.index.IndexDef.{IndexDef}
 use Rattle.rs_scan.specs.Scans.{rows_of_index, rows_of_table}
 use Rattle.rs_query.specs.Questions.{asking}
 use Rattle.rs_query.specs.declared.query.Query.{Query}
-use Rattle.rs_query.proofs.QuestionFacts.{AllAsked, AllAsked-none, Ended-behind, Stopped-behind}
+use Rattle.rs_query.proofs.QuestionFacts.{AllAsked-none, Ended-behind}
 use Rattle.rs_plan.specs.Calls.{questions_of_ask}
 use Rattle.rs_plan.specs.Counts.{gave_of}
 use Rattle.rs_plan.specs.Lists.{World, list_of}
@@ -48,15 +48,6 @@ fault-not (Err f) fault e ok = absurd (let no = ok in cc)
 
 -- a node that puts no question
 module _ (w : World) (number : ℕ) (tree : PlanTree) (a : ℕ) (none : questions_of_ask w number tree (suc a) ≡ []) (After : Type 0) (old : ScorerState) (same : w.answer ≡ old.answer) where
-  -- there was no memory
-  pub still-stopped : (result : Result (Option RankRow) ExecFault) → result ≡ Err Memory → Asked w number tree a After result old old
-  still-stopped result e = record {
-    inquires = subst (λ answer. Inquires Memory (asking exec_faults answer w.catalogue (questions_of_ask w number tree (suc a)) (slice_get (list_of w number tree) a)) result old old) (sym same)
-        (Stopped-behind exec_faults Memory w.catalogue (questions_of_ask w number tree (suc a)) (slice_get (list_of w number tree) a) result old old e
-        (subst (λ qs. AllAsked old.answer w.catalogue qs old old) (sym none) (AllAsked-none old.answer w.catalogue old)));
-    leaves = λ ok. absurd (fault-not result Memory e ok);
-  }
-
   -- the next row was given
   pub still-gave : (row : Option RankRow) → row ≡ slice_get (list_of w number tree) a → After → Asked w number tree a After (Ok row) old old
   still-gave row e after = record {

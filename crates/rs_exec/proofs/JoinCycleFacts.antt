@@ -360,7 +360,6 @@ module _ {catalogue : CatalogDef} {query : Query} {number : ℕ} {kind : JoinKin
         core = (has ∙ (λ k. core_of (kind_now k) catalogue (block_in query number) (entries left) (entries right) ((joined_is ∙ rest) k))) i;
         block = (block_is ∙ during.block_is) i;
         conditions = (conditions_are ∙ during.conditions_are) i;
-        cells = tt;
         tally = record { asked = is_asked i; gave = gave i };
       } in
       let on_the_left : Below whole number left (asked Left during.made) on_left = during.turn.below Left in

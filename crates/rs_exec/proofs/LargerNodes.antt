@@ -184,7 +184,6 @@ module _ (catalogue more : CatalogDef) (answer : Answering) (query : Query) (cov
     block = number;
     entry = entry;
     conjuncts = entry_conjuncts (block_in query number) entry;
-    cells = tt;
     tally = record { asked = a; gave = gave-same number (SeqScan entry) a i };
   }
 
@@ -206,7 +205,6 @@ module _ (catalogue more : CatalogDef) (answer : Answering) (query : Query) (cov
         entry = entry;
         term = term;
         conjuncts = entry_conjuncts (block_in query number) entry;
-        cells = tt;
         tally = record { asked = a; gave = gave-same number (RankScan entry term index) a i };
       }
 
@@ -263,7 +261,6 @@ module _ (catalogue more : CatalogDef) (answer : Answering) (query : Query) (cov
         core = kept i;
         block = number;
         conditions = conditions-same number (entries left) (entries right) i;
-        cells = tt;
         tally = record { asked = a; gave = gave-same number (JoinOperator kind left right) a i };
       }
 

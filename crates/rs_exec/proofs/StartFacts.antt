@@ -100,7 +100,6 @@ new_join w core number left right = record {
   core = core;
   block = number;
   conditions = conditions_of w.catalogue (numbered_block w number) (entries left) (entries right);
-  cells = tt;
   tally = no_tally;
 }
 

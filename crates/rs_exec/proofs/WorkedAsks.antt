@@ -164,11 +164,11 @@ broken = refl
 
 -- after three rows of four a scan of the table has drawn three; after the ask that finds the end it has drawn four
 scan_after_three : table_node_after four 1 1 3
-    ≡ record { scan = record { entry = 1; block = 1; rows = 4; drawn = 3 }; block = 1; entry = 1; conjuncts = 0; cells = tt; tally = record { asked = 3; gave = 3 } }
+    ≡ record { scan = record { entry = 1; block = 1; rows = 4; drawn = 3 }; block = 1; entry = 1; conjuncts = 0; tally = record { asked = 3; gave = 3 } }
 scan_after_three = refl
 
 scan_at_the_end : table_node_after four 1 1 5
-    ≡ record { scan = record { entry = 1; block = 1; rows = 4; drawn = 4 }; block = 1; entry = 1; conjuncts = 0; cells = tt; tally = record { asked = 5; gave = 4 } }
+    ≡ record { scan = record { entry = 1; block = 1; rows = 4; drawn = 4 }; block = 1; entry = 1; conjuncts = 0; tally = record { asked = 5; gave = 4 } }
 scan_at_the_end = refl
 
 -- the same of a scan of the index
@@ -178,7 +178,6 @@ index_after_three : index_node_after four 1 1 1 0 3 ≡ record {
   entry = 1;
   term = 1;
   conjuncts = 0;
-  cells = tt;
   tally = record { asked = 3; gave = 3 };
 }
 index_after_three = refl

@@ -36,7 +36,6 @@ table_node_after w number entry a = record {
   block = number;
   entry = entry;
   conjuncts = entry_conjuncts (numbered_block w number) entry;
-  cells = tt;
   tally = tally_after w number (SeqScan entry) a;
 }
 
@@ -55,7 +54,6 @@ index_node_after w number entry term index a = record {
   entry = entry;
   term = term;
   conjuncts = entry_conjuncts (numbered_block w number) entry;
-  cells = tt;
   tally = tally_after w number (RankScan entry term index) a;
 }
 
@@ -100,7 +98,6 @@ join_node_after w number kind left right a = record {
       (gave_of w number (JoinOperator kind left right) a));
   block = number;
   conditions = conditions_of w.catalogue (numbered_block w number) (entries left) (entries right);
-  cells = tt;
   tally = tally_after w number (JoinOperator kind left right) a;
 }
 

@@ -36,7 +36,6 @@ new_table_node block number entry rows = record {
   block = number;
   entry = entry;
   conjuncts = entry_conjuncts block entry;
-  cells = tt;
   tally = no_tally;
 }
 
@@ -47,7 +46,6 @@ new_index_node block number entry term index weight rows = record {
   entry = entry;
   term = term;
   conjuncts = entry_conjuncts block entry;
-  cells = tt;
   tally = no_tally;
 }
 
@@ -65,7 +63,6 @@ IsStart catalogue block number (JoinOperator kind left right) (node.Join' head p
       core = new_join_core kind (weights_of block) (side_for left) (side_for right);
       block = number;
       conditions = conditions_of catalogue block (entries left) (entries right);
-      cells = tt;
       tally = no_tally;
     })
     × IsStart catalogue block number left on_left × IsStart catalogue block number right on_right

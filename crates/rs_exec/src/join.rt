@@ -18,10 +18,8 @@ use crate::tally::Tally;
 use rs_expr::Scorer;
 use rs_filter::JoinConditions;
 use rs_plan::Counts;
-use rs_query::KeptList;
 use rs_rank::{JoinAsk, RankRow};
 use rs_value::Memory;
-use std::alloc::Global;
 
 /// A rank join, without its sides.
 #[derive(Drop)]
@@ -29,27 +27,20 @@ pub(crate) struct JoinNode {
     pub(crate) core: JoinCore,
     /// The number of its block.
     pub(crate) block: u8,
-    /// What it looks at of two rows, and the last cells that this looked at.
+    /// What it looks at of two rows.
     pub(crate) conditions: JoinConditions,
-    pub(crate) cells: KeptList,
     pub(crate) tally: Tally,
 }
 
 impl JoinNode {
     /// A join of a block with this core, which was asked nothing.
-    pub(crate) fn new(
-        alloc: Global,
-        core: JoinCore,
-        block: u8,
-        conditions: JoinConditions,
-    ) -> JoinNode
-        ensures { result ≡ record { core = core; block = block; conditions = conditions; cells = tt; tally = record { asked = 0; gave = 0 } } }
+    pub(crate) fn new(core: JoinCore, block: u8, conditions: JoinConditions) -> JoinNode
+        ensures { result ≡ record { core = core; block = block; conditions = conditions; tally = record { asked = 0; gave = 0 } } }
     {
         JoinNode {
             core,
             block,
             conditions,
-            cells: KeptList::new(alloc),
             tally: Tally::new(),
         }
     }
@@ -70,14 +61,7 @@ impl JoinNode {
         }) }
     {
         let block = context.block(self.block);
-        self.core.feed_left(
-            row,
-            context.alloc,
-            context.catalog,
-            block,
-            &self.conditions,
-            &mut self.cells,
-        )
+        self.core.feed_left(row, context.alloc, context.catalog, block, &self.conditions)
     }
 
     /// Takes the right side's next row, and finds the left rows drawn so far that it matches.
@@ -88,14 +72,7 @@ impl JoinNode {
         }) }
     {
         let block = context.block(self.block);
-        self.core.feed_right(
-            row,
-            context.alloc,
-            context.catalog,
-            block,
-            &self.conditions,
-            &mut self.cells,
-        )
+        self.core.feed_right(row, context.alloc, context.catalog, block, &self.conditions)
     }
 
     /// The left side has no row more.

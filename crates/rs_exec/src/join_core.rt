@@ -13,7 +13,7 @@ use rs_filter::{BlockMatch, JoinConditions, left_values, right_values};
 use rs_hrjn::Hrjn;
 use rs_nrjn::Nrjn;
 use rs_plan::Plan;
-use rs_query::{Block, KeptList};
+use rs_query::Block;
 use rs_rank::{JoinAsk, RankRow, Weights};
 use rs_ripple::Side;
 use rs_value::Memory;
@@ -67,12 +67,11 @@ impl JoinCore {
         catalog: &Catalog,
         block: &Block,
         conditions: &JoinConditions,
-        cells: &mut KeptList,
     ) -> Result<(), Memory>
         requires { CanTake Left catalog.now block.now conditions.now row self.old }
         ensures { OnOk result (self.new ≡ core_with_row Left catalog.now block.now conditions.now row self.old) }
     {
-        let mut matcher = BlockMatch::new(catalog, block, conditions, cells);
+        let mut matcher = BlockMatch::new(catalog, block, conditions);
         match self {
             JoinCore::Nested(core) => core.feed_left(row, &mut matcher),
             JoinCore::Hash(core) => {
@@ -90,12 +89,11 @@ impl JoinCore {
         catalog: &Catalog,
         block: &Block,
         conditions: &JoinConditions,
-        cells: &mut KeptList,
     ) -> Result<(), Memory>
         requires { CanTake Right catalog.now block.now conditions.now row self.old }
         ensures { OnOk result (self.new ≡ core_with_row Right catalog.now block.now conditions.now row self.old) }
     {
-        let mut matcher = BlockMatch::new(catalog, block, conditions, cells);
+        let mut matcher = BlockMatch::new(catalog, block, conditions);
         match self {
             JoinCore::Nested(core) => core.feed_right(row, &mut matcher),
             JoinCore::Hash(core) => {

@@ -41,8 +41,8 @@ impl PlanNode {
         ensures { NodeAsked (world_in context.now (S.state scorer.old)) self.old self.new result (S.state scorer.old) (S.state scorer.new) }
     {
         match self {
-            PlanNode::SeqScan(head) => Ok(head.next(context)?),
-            PlanNode::RankScan(head) => Ok(head.next(context)?),
+            PlanNode::SeqScan(head) => Ok(head.next(context)),
+            PlanNode::RankScan(head) => Ok(head.next(context)),
             PlanNode::Rank(head, child) => next_ranked(head, child, context, scorer),
             PlanNode::Join(head, left, right) => { next_joined(head, left, right, context, scorer) }
             PlanNode::Distinct(head, child) => { next_distinct(head, child, context, scorer) }

@@ -1,6 +1,6 @@
 //! Scans as nodes: they draw until a row satisfies the conjuncts that speak of its entry alone.
 
-ghost use Rattle.std.specs.Prelude.{◌≡◌, ◌<◌, IfOk, length};
+ghost use Rattle.std.specs.Prelude.{◌≡◌, ◌<◌, length};
 ghost use Rattle.rs_scan.specs.Scans.{IsOfAllRows, rows_of_index, rows_of_table};
 ghost use Rattle.rs_exec.specs.Drawing.{IsSmall, ScansEntry, drawn_then, next_drawn, passes, tally_with};
 
@@ -8,11 +8,8 @@ use crate::context::QueryContext;
 use crate::tally::Tally;
 use rs_filter::passes;
 use rs_plan::Counts;
-use rs_query::KeptList;
 use rs_rank::RankRow;
 use rs_scan::{RankScan, SeqScan};
-use rs_value::Memory;
-use std::alloc::Global;
 
 /// A scan of the table of a FROM entry.
 #[derive(Drop)]
@@ -21,27 +18,19 @@ pub(crate) struct TableNode {
     /// The number of its block, and that of its entry in there.
     pub(crate) block: u8,
     pub(crate) entry: u8,
-    /// The mask of the conjuncts that speak of the entry alone, and the last cells that they looked at.
+    /// The mask of the conjuncts that speak of the entry alone.
     pub(crate) conjuncts: u32,
-    pub(crate) cells: KeptList,
     pub(crate) tally: Tally,
 }
 
 impl TableNode {
     /// A node over a scan of an entry, of a block of this number, with the mask of the conjuncts that speak of the entry alone.
-    pub(crate) fn new(
-        alloc: Global,
-        scan: SeqScan,
-        block: u8,
-        entry: u8,
-        conjuncts: u32,
-    ) -> TableNode
+    pub(crate) fn new(scan: SeqScan, block: u8, entry: u8, conjuncts: u32) -> TableNode
         ensures { result ≡ record {
           scan = scan;
           block = block;
           entry = entry;
           conjuncts = conjuncts;
-          cells = tt;
           tally = record { asked = 0; gave = 0 };
         } }
     {
@@ -50,38 +39,31 @@ impl TableNode {
             block,
             entry,
             conjuncts,
-            cells: KeptList::new(alloc),
             tally: Tally::new(),
         }
     }
 
     /// The next row that satisfies the conjuncts of its entry.
-    pub(crate) fn next(&mut self, context: &QueryContext<'_>) -> Result<Option<RankRow>, Memory>
+    pub(crate) fn next(&mut self, context: &QueryContext<'_>) -> Option<RankRow>
         requires entry { ScansEntry context.now.catalog.now context.now.query.now self.old.block self.old.entry self.old.scan.rows self.old.conjuncts }
         requires same_entry { self.old.scan.entry ≡ self.old.entry }
         requires same_block { self.old.scan.block ≡ self.old.block }
         requires small { IsSmall self.old.tally }
-        ensures row { IfOk result (λ row. row ≡ next_drawn (passes context.now.catalog.now context.now.query.now) (rows_of_table self.old.scan) self.old.scan.drawn) }
-        ensures after { IfOk result (λ row. self.new ≡ record self.old {
+        ensures row { result ≡ next_drawn (passes context.now.catalog.now context.now.query.now) (rows_of_table self.old.scan) self.old.scan.drawn }
+        ensures after { self.new ≡ record self.old {
           scan = record self.old.scan { drawn = drawn_then (passes context.now.catalog.now context.now.query.now) (rows_of_table self.old.scan) self.old.scan.drawn };
-          tally = tally_with row self.old.tally;
-        }) }
+          tally = tally_with result self.old.tally;
+        } }
     {
         let block = context.block(self.block);
         self.tally.ask();
         while let Some(row) = self.scan.next() {
-            if passes(
-                context.catalog,
-                block,
-                self.conjuncts,
-                &row,
-                self.cells.list(),
-            )? {
+            if passes(context.catalog, block, self.conjuncts, &row) {
                 self.tally.give();
-                return Ok(Some(row));
+                return Some(row);
             }
         }
-        Ok(None)
+        None
     }
 
     /// What it counts.
@@ -105,30 +87,21 @@ pub(crate) struct IndexNode {
     pub(crate) block: u8,
     pub(crate) entry: u8,
     pub(crate) term: u8,
-    /// The mask of the conjuncts that speak of the entry alone, and the last cells that they looked at.
+    /// The mask of the conjuncts that speak of the entry alone.
     pub(crate) conjuncts: u32,
-    pub(crate) cells: KeptList,
     pub(crate) tally: Tally,
 }
 
 impl IndexNode {
     /// A node over a scan of an entry by an index for a term, of a block of this number, with the mask of the conjuncts that speak of
     /// the entry alone.
-    pub(crate) fn new(
-        alloc: Global,
-        scan: RankScan,
-        block: u8,
-        entry: u8,
-        term: u8,
-        conjuncts: u32,
-    ) -> IndexNode
+    pub(crate) fn new(scan: RankScan, block: u8, entry: u8, term: u8, conjuncts: u32) -> IndexNode
         ensures { result ≡ record {
           scan = scan;
           block = block;
           entry = entry;
           term = term;
           conjuncts = conjuncts;
-          cells = tt;
           tally = record { asked = 0; gave = 0 };
         } }
     {
@@ -138,40 +111,33 @@ impl IndexNode {
             entry,
             term,
             conjuncts,
-            cells: KeptList::new(alloc),
             tally: Tally::new(),
         }
     }
 
     /// The next row that satisfies the conjuncts of its entry.
-    pub(crate) fn next(&mut self, context: &QueryContext<'_>) -> Result<Option<RankRow>, Memory>
+    pub(crate) fn next(&mut self, context: &QueryContext<'_>) -> Option<RankRow>
         requires entry { ScansEntry context.now.catalog.now context.now.query.now self.old.block self.old.entry self.old.scan.rows self.old.conjuncts }
         requires same_entry { self.old.scan.entry ≡ self.old.entry }
         requires same_block { self.old.scan.block ≡ self.old.block }
         requires index { self.old.scan.index < length context.now.catalog.now.indexes }
         requires view { IsOfAllRows context.now.catalog.now self.old.scan }
         requires small { IsSmall self.old.tally }
-        ensures row { IfOk result (λ row. row ≡ next_drawn (passes context.now.catalog.now context.now.query.now) (rows_of_index context.now.catalog.now self.old.scan) self.old.scan.drawn) }
-        ensures after { IfOk result (λ row. self.new ≡ record self.old {
+        ensures row { result ≡ next_drawn (passes context.now.catalog.now context.now.query.now) (rows_of_index context.now.catalog.now self.old.scan) self.old.scan.drawn }
+        ensures after { self.new ≡ record self.old {
           scan = record self.old.scan { drawn = drawn_then (passes context.now.catalog.now context.now.query.now) (rows_of_index context.now.catalog.now self.old.scan) self.old.scan.drawn };
-          tally = tally_with row self.old.tally;
-        }) }
+          tally = tally_with result self.old.tally;
+        } }
     {
         let block = context.block(self.block);
         self.tally.ask();
         while let Some(row) = self.scan.next(context.catalog) {
-            if passes(
-                context.catalog,
-                block,
-                self.conjuncts,
-                &row,
-                self.cells.list(),
-            )? {
+            if passes(context.catalog, block, self.conjuncts, &row) {
                 self.tally.give();
-                return Ok(Some(row));
+                return Some(row);
             }
         }
-        Ok(None)
+        None
     }
 
     /// What it counts.

@@ -116,7 +116,7 @@ impl PlanNode {
                 let rows = size_of(catalog, block, *entry);
                 let conjuncts = block.within(mask_of(*entry));
                 let scan = SeqScan::new(*entry, number, rows);
-                let head = TableNode::new(alloc, scan, number, *entry, conjuncts);
+                let head = TableNode::new(scan, number, *entry, conjuncts);
                 Ok(PlanNode::SeqScan(head))
             }
             Plan::RankScan { entry, term, index } => {
@@ -124,7 +124,7 @@ impl PlanNode {
                 let rows = size_of(catalog, block, *entry);
                 let conjuncts = block.within(mask_of(*entry));
                 let scan = RankScan::new(*index, *entry, number, weight, rows);
-                let head = IndexNode::new(alloc, scan, number, *entry, *term, conjuncts);
+                let head = IndexNode::new(scan, number, *entry, *term, conjuncts);
                 Ok(PlanNode::RankScan(head))
             }
             Plan::Rank { term, child } => {
@@ -152,7 +152,7 @@ impl PlanNode {
                     PlanNode::start(alloc, catalog, block, number, right)?,
                 )?;
                 let core = JoinCore::new(alloc, plan, weights, left_side, right_side);
-                let head = JoinNode::new(alloc, core, number, conditions);
+                let head = JoinNode::new(core, number, conditions);
                 Ok(join_over(head, on_left, on_right))
             }
             Plan::Distinct { child } => {

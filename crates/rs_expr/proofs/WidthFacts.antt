@@ -66,7 +66,7 @@ of_two-some combine (Some a) None width e = absurd (cc)
 of_two-some combine None b width e = absurd (cc)
 
 -- x stays within the width, if there is one
-abbrev StaysIn : Option ℕ → ℕ → Type 0
+abbrev pub StaysIn : Option ℕ → ℕ → Type 0
 StaysIn o x = (width : ℕ) → o ≡ Some width → x ≤ width
 
 two-within : {combine : ℕ → ℕ → ℕ} {a b : Option ℕ} (x y z : ℕ) → StaysIn a x → StaysIn b y → ((v w : ℕ) → x ≤ v → y ≤ w → z ≤ combine v w)
@@ -102,6 +102,15 @@ narrow-some : (b : Bool) (o : Option ℕ) (width : ℕ) → (if b then o else No
 narrow-some true o width e = e
 narrow-some false o width e = absurd (cc)
 
+-- a product stays within the width of two parts, and a quotient within that of its part
+pub product-stays : (f g : Formula) (x y : ℤ) → StaysIn (width_of f) (nat_abs x) → StaysIn (width_of g) (nat_abs y)
+    → StaysIn (width_of (Product f g)) (nat_abs (x *ℤ y))
+product-stays f g x y left right =
+    two-within (nat_abs x) (nat_abs y) (nat_abs (x *ℤ y)) left right (λ v w p q. rw unsigned_abs-mul (mul-le (nat_abs x) (nat_abs y) v w p q))
+
+pub quotient-stays : (f : Formula) (divisor x : ℤ) → StaysIn (width_of f) (nat_abs x) → StaysIn (width_of (Quotient f divisor)) (nat_abs (int_div x divisor))
+quotient-stays f divisor x part = quotient-within (nat_abs divisor == 0) x divisor (width_of f) refl part
+
 -- the value of a formula stays within its width
 pub value-within : (formula : Formula) (args : List Value) (width : ℕ) → uses (has_argument args) formula ≡ true → width_of formula ≡ Some width
     → nat_abs (value_of formula args) ≤ width
@@ -117,11 +126,9 @@ value-within (Difference f g) args width u e =
     two-within (nat_abs x) (nat_abs y) (nat_abs (x -ℤ y)) (λ v. value-within f args v both.0) (λ w. value-within g args w both.1)
     (λ v w p q. omega (arith, abs-difference x y)) width e
 value-within (Product f g) args width u e =
-    let x = value_of f args in let y = value_of g args in let both = and_parts (uses (has_argument args) f) (uses (has_argument args) g) u in
-    two-within (nat_abs x) (nat_abs y) (nat_abs (x *ℤ y)) (λ v. value-within f args v both.0) (λ w. value-within g args w both.1)
-    (λ v w p q. rw unsigned_abs-mul (mul-le (nat_abs x) (nat_abs y) v w p q)) width e
-value-within (Quotient f divisor) args width u e =
-    quotient-within (nat_abs divisor == 0) (value_of f args) divisor (width_of f) refl (λ v. value-within f args v u) width e
+    let both = and_parts (uses (has_argument args) f) (uses (has_argument args) g) u in
+    product-stays f g (value_of f args) (value_of g args) (λ v. value-within f args v both.0) (λ w. value-within g args w both.1) width e
+value-within (Quotient f divisor) args width u e = quotient-stays f divisor (value_of f args) (λ v. value-within f args v u) width e
 value-within (Magnitude f) args width u e = value-within f args width u e
 value-within (Least f g) args width u e =
     let x = value_of f args in let y = value_of g args in let both = and_parts (uses (has_argument args) f) (uses (has_argument args) g) u in
@@ -155,13 +162,12 @@ width-most (Least f g) width e = (of_two-some max (width_of f) (width_of g) widt
 width-most (Greatest f g) width e = (of_two-some max (width_of f) (width_of g) width e).whole.most
 width-most (Case c f g) width e = (of_two-some max (width_of f) (width_of g) width (narrow-some (is_narrow c) _ width e)).whole.most
 
--- so the value of a formula that has a width stays within the greatest magnitude
-pub value-most : (formula : Formula) (args : List Value) (value : ℤ) → is_some (width_of formula) ≡ true → uses (has_argument args) formula ≡ true
-    → value ≡ value_of formula args → nat_abs value ≤ most_width
-value-most formula args value narrow u e = rw e (go (width_of formula) refl narrow)
+-- so what stays within the width of a formula that has one stays within the greatest magnitude
+pub stays-most : (formula : Formula) (value : ℤ) → is_some (width_of formula) ≡ true → StaysIn (width_of formula) (nat_abs value) → nat_abs value ≤ most_width
+stays-most formula value narrow stays = go (width_of formula) refl narrow
   where
-    go : (o : Option ℕ) → width_of formula ≡ o → is_some o ≡ true → nat_abs (value_of formula args) ≤ most_width
-    go (Some width) is n = omega (arith, value-within formula args width u is, width-most formula width is)
+    go : (o : Option ℕ) → width_of formula ≡ o → is_some o ≡ true → nat_abs value ≤ most_width
+    go (Some width) is n = omega (arith, stays width is, width-most formula width is)
     go None is n = absurd (cc)
 
 -- a quotient that has a width has a part that has one, and a divisor that isn't 0

@@ -1,39 +1,48 @@
-ghost use Rattle.std.specs.Prelude.{◌≡◌, ◌≤◌, true, is_some, nat_abs, slice_get, ℕ, Some};
-ghost use Rattle.rs_value.specs.Number.{greatest_int};
-ghost use Rattle.rs_value.specs.declared.kind.Kind.TheVariants as kind;
+ghost use Rattle.std.specs.Prelude.{◌≡◌, ◌≤◌, true, is_some, nat_abs, ℕ, Some};
 ghost use Rattle.rs_expr.specs.Formulas.{condition_of, formula_of};
-ghost use Rattle.rs_expr.specs.Meaning.{holds, argument_number, side_of, argument_text, value_of};
+ghost use Rattle.rs_expr.specs.Meaning.{holds, side_of, value_of};
 ghost use Rattle.rs_expr.specs.Uses.{condition_uses, has_argument, side_uses, uses};
 ghost use Rattle.rs_expr.specs.Widths.{is_narrow, width_of};
 
+use crate::arguments::Arguments;
 use crate::expr::{Cond, Expr, TextSide};
 use rs_value::Value;
 
 impl Expr {
     /// The value of the formula for these arguments. It takes no memory.
-    #[cycle(eval)]
     pub fn eval(&self, args: &[Value]) -> i128
         requires narrow { is_some (width_of (formula_of self.now)) ≡ true }
         requires args { uses (has_argument args.now) (formula_of self.now) ≡ true }
         ensures value { result ≡ value_of (formula_of self.now) args.now }
         ensures within { (width : ℕ) → width_of (formula_of self.now) ≡ Some width → nat_abs result ≤ width }
     {
+        self.eval_lent(&args)
+    }
+
+    /// The same, for arguments that are lent.
+    #[cycle(eval)]
+    pub fn eval_lent<A: Arguments>(&self, args: &A) -> i128
+        requires narrow { is_some (width_of (formula_of self.now)) ≡ true }
+        requires args { uses (A.has args.now) (formula_of self.now) ≡ true }
+        ensures value { result ≡ value_of (formula_of self.now) (A.values args.now) }
+        ensures within { (width : ℕ) → width_of (formula_of self.now) ≡ Some width → nat_abs result ≤ width }
+    {
         match self {
-            Expr::Arg(place) => number_at(args, *place),
+            Expr::Arg(place) => args.number(*place) as i128,
             Expr::Int(number) => *number as i128,
-            Expr::Neg(part) => -part.eval(args),
-            Expr::Add(left, right) => left.eval(args) + right.eval(args),
-            Expr::Sub(left, right) => left.eval(args) - right.eval(args),
-            Expr::Mul(left, right) => left.eval(args) * right.eval(args),
-            Expr::Div(part, divisor) => part.eval(args) / *divisor as i128,
-            Expr::Abs(part) => part.eval(args).abs(),
-            Expr::Least(left, right) => left.eval(args).min(right.eval(args)),
-            Expr::Greatest(left, right) => left.eval(args).max(right.eval(args)),
+            Expr::Neg(part) => -part.eval_lent(args),
+            Expr::Add(left, right) => left.eval_lent(args) + right.eval_lent(args),
+            Expr::Sub(left, right) => left.eval_lent(args) - right.eval_lent(args),
+            Expr::Mul(left, right) => left.eval_lent(args) * right.eval_lent(args),
+            Expr::Div(part, divisor) => part.eval_lent(args) / *divisor as i128,
+            Expr::Abs(part) => part.eval_lent(args).abs(),
+            Expr::Least(left, right) => left.eval_lent(args).min(right.eval_lent(args)),
+            Expr::Greatest(left, right) => left.eval_lent(args).max(right.eval_lent(args)),
             Expr::Case(condition, outcome, rest) => {
-                if condition.test(args) {
-                    outcome.eval(args)
+                if condition.test_lent(args) {
+                    outcome.eval_lent(args)
                 } else {
-                    rest.eval(args)
+                    rest.eval_lent(args)
                 }
             }
         }
@@ -42,54 +51,42 @@ impl Expr {
 
 impl Cond {
     /// Whether the condition holds of these arguments. It takes no memory.
-    #[cycle(eval)]
     pub fn test(&self, args: &[Value]) -> bool
         requires narrow { is_narrow (condition_of self.now) ≡ true }
         requires args { condition_uses (has_argument args.now) (condition_of self.now) ≡ true }
         ensures { result ≡ holds (condition_of self.now) args.now }
     {
+        self.test_lent(&args)
+    }
+
+    /// The same, for arguments that are lent.
+    #[cycle(eval)]
+    pub fn test_lent<A: Arguments>(&self, args: &A) -> bool
+        requires narrow { is_narrow (condition_of self.now) ≡ true }
+        requires args { condition_uses (A.has args.now) (condition_of self.now) ≡ true }
+        ensures { result ≡ holds (condition_of self.now) (A.values args.now) }
+    {
         match self {
-            Cond::Numbers(rel, left, right) => rel.holds(left.eval(args).cmp(&right.eval(args))),
+            Cond::Numbers(rel, left, right) => {
+                rel.holds(left.eval_lent(args).cmp(&right.eval_lent(args)))
+            }
             Cond::Texts(rel, left, right) => { rel.holds(left.bytes(args).cmp(right.bytes(args))) }
-            Cond::And(left, right) => left.test(args) && right.test(args),
-            Cond::Or(left, right) => left.test(args) || right.test(args),
-            Cond::Not(part) => !part.test(args),
+            Cond::And(left, right) => left.test_lent(args) && right.test_lent(args),
+            Cond::Or(left, right) => left.test_lent(args) || right.test_lent(args),
+            Cond::Not(part) => !part.test_lent(args),
         }
     }
 }
 
 impl TextSide {
     /// The bytes of the text.
-    fn bytes<'a>(&'a self, args: &'a [Value]) -> &'a [u8]
-        requires { side_uses (has_argument args.now) self.now ≡ true }
-        ensures { result.now ≡ side_of self.now args.now }
+    fn bytes<'a, A: Arguments>(&'a self, args: &'a A) -> &'a [u8]
+        requires { side_uses (A.has args.now) self.now ≡ true }
+        ensures { result.now ≡ side_of self.now (A.values args.now) }
     {
         match self {
-            TextSide::Arg(place) => text_at(args, *place),
+            TextSide::Arg(place) => args.text(*place),
             TextSide::Text(text) => text.bytes(),
         }
-    }
-}
-
-/// The number of the argument at a place.
-fn number_at(args: &[Value], place: u16) -> i128
-    requires { has_argument args.now kind.Int place ≡ true }
-    ensures value { result ≡ argument_number (slice_get args.now place) }
-    ensures within { nat_abs result ≤ greatest_int }
-{
-    match &args[place as usize] {
-        Value::Int(number) => *number as i128,
-        Value::Text(_) => 0,
-    }
-}
-
-/// The bytes of the argument at a place.
-fn text_at(args: &[Value], place: u16) -> &[u8]
-    requires { has_argument args.now kind.Text place ≡ true }
-    ensures { result.now ≡ argument_text (slice_get args.now place) }
-{
-    match &args[place as usize] {
-        Value::Int(_) => &[],
-        Value::Text(text) => text.bytes(),
     }
 }

@@ -4,6 +4,7 @@
 //! has its truth; and a scorer's calls are counted, each one.
 #![tactic(auto)]
 
+mod arguments;
 mod eval;
 mod expr;
 mod formula_scorer;
@@ -14,6 +15,7 @@ mod score;
 mod scorer;
 mod width;
 
+pub use arguments::Arguments;
 pub use expr::{Cond, Expr, TextSide};
 pub use formula_scorer::FormulaScorer;
 pub use laws::values_stay_within_widths;

@@ -6,7 +6,7 @@ ghost use Rattle.rs_filter.specs.Matching.{joins, new_matching};
 use crate::choice::is_choice;
 use crate::conditions::JoinConditions;
 use rs_catalog::Catalog;
-use rs_query::{Block, KeptList};
+use rs_query::Block;
 use rs_rank::{Matcher, RankRow};
 use rs_value::Memory;
 use std::marker::Model;
@@ -18,8 +18,6 @@ pub struct BlockMatch<'a> {
     catalog: &'a Catalog,
     block: &'a Block,
     conditions: &'a JoinConditions,
-    // What the conjuncts look at is put here.
-    cells: &'a mut KeptList,
     calls: u64,
 }
 
@@ -45,12 +43,11 @@ impl<'a> Model for BlockMatch<'a> {
 }
 
 impl<'a> BlockMatch<'a> {
-    /// What matches rows of the block by these conditions. What these look at is put into a list that is kept for its memory.
+    /// What matches rows of the block by these conditions.
     pub fn new(
         catalog: &'a Catalog,
         block: &'a Block,
         conditions: &'a JoinConditions,
-        cells: &'a mut KeptList,
     ) -> BlockMatch<'a>
         requires block { IsBlock catalog.now block.now }
         requires conditions { AreConditions catalog.now block.now conditions.now }
@@ -60,7 +57,6 @@ impl<'a> BlockMatch<'a> {
             catalog,
             block,
             conditions,
-            cells,
             calls: 0,
         }
     }
@@ -92,7 +88,6 @@ impl<'a> Matcher for BlockMatch<'a> {
             return Ok(false);
         }
         let ids = left.ids.merge(&right.ids);
-        self.block
-            .holds_with(self.catalog, conditions.across, &ids, self.cells.list())
+        Ok(self.block.holds(self.catalog, conditions.across, &ids))
     }
 }

@@ -10,20 +10,14 @@ use rs_value::{Memory, Value};
 use std::alloc::Global;
 
 /// Whether every conjunct in a mask holds of a row. The first conjunct has the lowest bit, and the row has all entries of which
-/// these conjuncts speak. What they look at is put into a list, which is to be kept from call to call for its memory.
-pub fn passes(
-    catalog: &Catalog,
-    block: &Block,
-    conjuncts: u32,
-    row: &RankRow,
-    cells: &mut Vec<Value>,
-) -> Result<bool, Memory>
+/// these conjuncts speak. It takes no memory.
+pub fn passes(catalog: &Catalog, block: &Block, conjuncts: u32, row: &RankRow) -> bool
     requires block { IsBlock catalog.now block.now }
     requires inside { AreInside conjuncts row.now.ids.mask block.now.conjuncts }
     requires rows { HasRows catalog.now block.now row.now.ids.mask row.now.ids.rows }
-    ensures { IfOk result (λ passes. passes ≡ all_hold catalog.now block.now conjuncts row.now.ids.rows block.now.conjuncts) }
+    ensures { result ≡ all_hold catalog.now block.now conjuncts row.now.ids.rows block.now.conjuncts }
 {
-    block.holds_with(catalog, conjuncts, &row.ids, cells)
+    block.holds(catalog, conjuncts, &row.ids)
 }
 
 /// The values of the output columns of a row, which has all entries of these columns.

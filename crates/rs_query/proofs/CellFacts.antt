@@ -89,6 +89,12 @@ module _ (catalogue : CatalogDef) (block : Block) where
   no_kind kind.Int is = false≢true is
   no_kind kind.Text is = false≢true is
 
+  -- where there is a column of a kind there is one
+  pub has_kind-within : (columns : List (ℕ × ℕ)) (kind : Kind) (i : ℕ) → has_kind catalogue block columns kind i ≡ true → i < length columns
+  has_kind-within [] kind i is = absurd (no_kind kind is)
+  has_kind-within (column ∷ columns) kind zero is = omega arith
+  has_kind-within (column ∷ columns) kind (suc i) is = let behind = has_kind-within columns kind i is in omega arith
+
   -- one more value of the kind of its column
   HaveKinds-push : (columns : List (ℕ × ℕ)) (values : List Value) (column : ℕ × ℕ) (value : Value) → length columns ≡ length values
       → HaveKinds columns values → ((kind : Kind) → column_kind catalogue block column ≡ Some kind → fits kind value ≡ true)

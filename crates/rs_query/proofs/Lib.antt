@@ -12,6 +12,7 @@ pub mod HoldFacts
 pub mod HoldNewFacts
 pub mod IndexTermFacts
 pub mod KeyFacts
+pub mod LentFacts
 pub mod LimitFacts
 pub mod ListFacts
 pub mod LocalFacts

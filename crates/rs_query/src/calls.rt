@@ -15,6 +15,7 @@ ghost use Rattle.rs_value.specs.declared.value.Value.TheVariants as value;
 
 use crate::block::Block;
 use crate::conjunct::Conjunct;
+use crate::lent_cells::LentCells;
 use rs_catalog::{BoundArg, Catalog};
 use rs_rank::Ids;
 use rs_table::{Cell, Table};
@@ -22,47 +23,23 @@ use rs_value::{Memory, Text, Value};
 use std::alloc::Global;
 
 impl Block {
-    /// Whether every conjunct in a mask holds of these rows. The first conjunct has the lowest bit.
-    pub fn holds(
-        &self,
-        alloc: Global,
-        catalog: &Catalog,
-        conjuncts: u32,
-        ids: &Ids,
-    ) -> Result<bool, Memory>
+    /// Whether every conjunct in a mask holds of these rows. The first conjunct has the lowest bit. It takes no memory: what the
+    /// conjuncts look at is compared where it stands.
+    pub fn holds(&self, catalog: &Catalog, conjuncts: u32, ids: &Ids) -> bool
         requires block { IsBlock catalog.now self.now }
         requires inside { AreInside conjuncts ids.now.mask self.now.conjuncts }
         requires rows { HasRows catalog.now self.now ids.now.mask ids.now.rows }
-        ensures { IfOk result (λ holds. holds ≡ all_hold catalog.now self.now conjuncts ids.now.rows self.now.conjuncts) }
-    {
-        let mut cells = Vec::new(alloc);
-        self.holds_with(catalog, conjuncts, ids, &mut cells)
-    }
-
-    /// The same, with a list to put cells in. The list is to be kept from call to call: its memory stays, so that numbers take none
-    /// once it has grown. A conjunct that equates columns of two entries takes no memory, and leaves the list as it is. Each other
-    /// one that is looked at makes it the list of its cells.
-    pub fn holds_with(
-        &self,
-        catalog: &Catalog,
-        conjuncts: u32,
-        ids: &Ids,
-        cells: &mut Vec<Value>,
-    ) -> Result<bool, Memory>
-        requires block { IsBlock catalog.now self.now }
-        requires inside { AreInside conjuncts ids.now.mask self.now.conjuncts }
-        requires rows { HasRows catalog.now self.now ids.now.mask ids.now.rows }
-        ensures { IfOk result (λ holds. holds ≡ all_hold catalog.now self.now conjuncts ids.now.rows self.now.conjuncts) }
+        ensures { result ≡ all_hold catalog.now self.now conjuncts ids.now.rows self.now.conjuncts }
     {
         for (place, conjunct) in self.conjuncts.items().iter().enumerate() {
             if (conjuncts >> place) % 2 == 0 {
                 continue;
             }
-            if !self.conjunct_holds(catalog, conjunct, ids, cells)? {
-                return Ok(false);
+            if !self.conjunct_holds(catalog, conjunct, ids) {
+                return false;
             }
         }
-        Ok(true)
+        true
     }
 
     /// Makes a list that of the arguments of a term, counted from 1, for these rows. They are those that its predicate takes.
@@ -103,26 +80,20 @@ impl Block {
         Ok(cells)
     }
 
-    /// Whether a conjunct of the block holds of these rows. Columns of two entries that it equates are compared where they stand.
-    /// Else the list is made that of the values of its columns.
-    fn conjunct_holds(
-        &self,
-        catalog: &Catalog,
-        conjunct: &Conjunct,
-        ids: &Ids,
-        cells: &mut Vec<Value>,
-    ) -> Result<bool, Memory>
+    /// Whether a conjunct of the block holds of these rows. Columns of two entries that it equates are compared at once, without a
+    /// walk through the condition.
+    fn conjunct_holds(&self, catalog: &Catalog, conjunct: &Conjunct, ids: &Ids) -> bool
         requires block { IsBlock catalog.now self.now }
         requires conjunct { IsConjunct catalog.now self.now conjunct.now }
         requires inside { is_inside conjunct.now.entries ids.now.mask ≡ true }
         requires rows { HasRows catalog.now self.now ids.now.mask ids.now.rows }
-        ensures { IfOk result (λ holds. holds ≡ conjunct_holds catalog.now self.now ids.now.rows conjunct.now) }
+        ensures { result ≡ conjunct_holds catalog.now self.now ids.now.rows conjunct.now }
     {
         if let Some((left, right)) = conjunct.equality() {
-            return Ok(self.cell(catalog, left, &ids.rows) == self.cell(catalog, right, &ids.rows));
+            return self.cell(catalog, left, &ids.rows) == self.cell(catalog, right, &ids.rows);
         }
-        self.cells_of(catalog, conjunct.columns(), ids, cells)?;
-        Ok(conjunct.condition().test(cells))
+        let cells = LentCells::of(catalog, self, conjunct.columns(), &ids.rows);
+        conjunct.condition().test_lent(&cells)
     }
 
     /// Makes a list that of the values of columns for these rows, each of its column's kind.
@@ -215,7 +186,12 @@ impl Block {
     }
 
     /// The cell of a column for these rows, of the column's kind.
-    fn cell<'a>(&self, catalog: &'a Catalog, column: (u8, u8), rows: &[u32; 6]) -> Cell<'a>
+    pub(crate) fn cell<'a>(
+        &self,
+        catalog: &'a Catalog,
+        column: (u8, u8),
+        rows: &[u32; 6],
+    ) -> Cell<'a>
         requires block { IsBlock catalog.now self.now }
         requires column { IsColumn catalog.now self.now column }
         requires row { HasRow catalog.now self.now rows.now column.0 }

@@ -13,7 +13,7 @@ use crate::sizes::size_of;
 use crate::step::Step;
 use rs_catalog::Catalog;
 use rs_rank::{Ids, mask_of, union};
-use rs_value::{Memory, Value};
+use rs_value::Memory;
 use std::alloc::Global;
 
 impl Block {
@@ -57,12 +57,11 @@ impl Block {
         requires { IsBlock catalog.now self.now }
         ensures { OnOk result (Adds (IsNewBefore catalog.now self.now old.now (length self.now.from)) found.old.items found.new.items) }
     {
-        let mut cells = Vec::new(alloc);
-        if !self.holds_of_all(catalog, &mut cells)? {
+        if !self.holds_of_all(catalog) {
             return Ok(());
         }
         for place in 0..self.from.len() {
-            self.find(alloc, catalog, place as u8 + 1, old, &mut cells, found)?;
+            self.find(alloc, catalog, place as u8 + 1, old, found)?;
             // Every row of this entry is new, so no combination is left whose first new row is that of an entry behind it.
             if old[place] == 0 {
                 return Ok(());
@@ -72,16 +71,16 @@ impl Block {
     }
 
     /// Whether the conditions without columns hold.
-    fn holds_of_all(&self, catalog: &Catalog, cells: &mut Vec<Value>) -> Result<bool, Memory>
+    fn holds_of_all(&self, catalog: &Catalog) -> bool
         requires { IsBlock catalog.now self.now }
-        ensures { IfOk result (λ holds. holds ≡ satisfies catalog.now self.now 0 (replicate 6 0)) }
+        ensures { result ≡ satisfies catalog.now self.now 0 (replicate 6 0) }
     {
         let ids = Ids {
             block: 1,
             mask: 0,
             rows: [0; 6],
         };
-        self.holds_with(catalog, self.within(0), &ids, cells)
+        self.holds(catalog, self.within(0), &ids)
     }
 
     /// Finds the combinations whose first new row is that of an entry, the pivot.
@@ -91,7 +90,6 @@ impl Block {
         catalog: &Catalog,
         pivot: u8,
         old: &[u32; 6],
-        cells: &mut Vec<Value>,
         found: &mut Vec<[u32; 6]>,
     ) -> Result<(), Memory>
         requires block { IsBlock catalog.now self.now }
@@ -104,7 +102,7 @@ impl Block {
             return Ok(());
         }
         let steps = self.steps(alloc, catalog, pivot, old)?;
-        self.extend(catalog, &steps, 0, [0; 6], cells, found)
+        self.extend(catalog, &steps, 0, [0; 6], found)
     }
 
     /// Finds the combinations that have these rows at the entries in a mask, and go on by these steps.
@@ -114,7 +112,6 @@ impl Block {
         steps: &[Step],
         mask: u8,
         rows: [u32; 6],
-        cells: &mut Vec<Value>,
         found: &mut Vec<[u32; 6]>,
     ) -> Result<(), Memory>
         requires block { IsBlock catalog.now self.now }
@@ -135,8 +132,8 @@ impl Block {
                 mask: more,
                 rows: longer,
             };
-            if self.holds_with(catalog, step.conditions, &ids, cells)? {
-                self.extend(catalog, rest, more, longer, cells, found)?;
+            if self.holds(catalog, step.conditions, &ids) {
+                self.extend(catalog, rest, more, longer, found)?;
             }
             row = step.next(row);
         }

@@ -14,6 +14,7 @@ mod inside;
 mod kept;
 mod keys;
 mod laws;
+mod lent_cells;
 mod limits;
 mod masks;
 mod query;

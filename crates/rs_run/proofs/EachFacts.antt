@@ -27,6 +27,7 @@ use Rattle.rs_statement.specs.Statements.{Does, DoesTable, analyze_step, explain
 use Rattle.rs_statement.specs.Steps.{Run, Step}
 use Rattle.rs_statement.specs.declared.evaluating.Evaluating.{Evaluating}
 use Rattle.rs_statement.specs.declared.evaluating.Evaluating.TheVariants.{Planned}
+use Rattle.rs_statement.specs.declared.sampling.Sampling.TheVariants.{ByScores}
 use Rattle.rs_statement.specs.declared.fault.Fault.{Fault}
 use Rattle.rs_statement.specs.declared.fault.Fault.TheVariants.{Script}
 use Rattle.rs_statement.specs.declared.script_fault.ScriptFault.TheVariants.{Lex, Parse}
@@ -113,7 +114,7 @@ module _ (finds : Finds) (has : HasFiles finds) (answer : Answering) (evaluating
 pub each_generated : (finds : Finds) (answer : Answering) (number rows : ℕ) → (run : Run) × IsRunOf finds answer (RunGenerated number rows) run
 each_generated finds answer number rows =
     let there : List ℕ → Option (List ℕ) = λ name. file_named name (generated_folder number rows) in
-    let whole = each_script (finds_generated number rows) (found_in-has there) answer (Planned number) script_name (there script_name) refl in
+    let whole = each_script (finds_generated number rows) (found_in-has there) answer (Planned (ByScores number)) script_name (there script_name) refl in
     (unfetched whole.0, (whole.0, whole.2, refl))
 
 -- words

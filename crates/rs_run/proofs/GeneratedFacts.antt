@@ -8,6 +8,7 @@ use Rattle.rs_outside.specs.MemFiles.{files_state}
 use Rattle.rs_expr.specs.Scoring.{Answering, Made}
 use Rattle.rs_gen.specs.Files.{generated, script_name}
 use Rattle.rs_statement.specs.declared.evaluating.Evaluating.TheVariants.{Planned}
+use Rattle.rs_statement.specs.declared.sampling.Sampling.TheVariants.{ByScores}
 use Rattle.rs_statement.specs.declared.fault.Fault.{Fault}
 use Rattle.rs_statement.specs.declared.fault.Fault.TheVariants.{Memory}
 use Rattle.rs_run.specs.Generated.{finds_generated, unfetched, without_fetches}
@@ -94,15 +95,15 @@ module _ (outside : Outside FilesTold) (old new : Environment) where
 
   -- the script of this name, which was run over the generated files
   pub Runs-generated : (answer : Answering) (number rows : ℕ) (name : List ℕ) (result : Result (Unit {0}) Fault) → name ≡ script_name → old.files ≡ files_state (generated number rows)
-      → Runs (IsRunOf (finds_in old.files.told) answer (RunScript name (Planned number))) result old new
+      → Runs (IsRunOf (finds_in old.files.told) answer (RunScript name (Planned (ByScores number)))) result old new
       → Runs (IsRunOf (finds_in outside.told) answer (RunGenerated number rows)) result
       (beside outside old) (beside outside new)
   Runs-generated answer number rows name result named same ran = record {
     run = unfetched ran.run;
     is = (
       ran.run,
-      subst (λ (name : List ℕ). IsScriptRun (finds_generated number rows) answer name (Planned number) ran.run) named
-          (subst (λ (files : Outside FilesTold). IsScriptRun (finds_in files.told) answer name (Planned number) ran.run) same ran.is),
+      subst (λ (name : List ℕ). IsScriptRun (finds_generated number rows) answer name (Planned (ByScores number)) ran.run) named
+          (subst (λ (files : Outside FilesTold). IsScriptRun (finds_in files.told) answer name (Planned (ByScores number)) ran.run) same ran.is),
       refl,
     );
     ran = Ran-beside (ap (λ (files : Outside FilesTold). files.steady) same) ran.run result ran.ran;

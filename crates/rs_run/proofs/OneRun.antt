@@ -24,6 +24,7 @@ use Rattle.rs_run.specs.Faults.{WordsRun}
 use Rattle.rs_run.specs.declared.fault.RunFault.TheVariants.{Statement}
 use Rattle.std.specs.Prelude.{None, Option, Some}
 use Rattle.rs_statement.specs.declared.evaluating.Evaluating.TheVariants.{Planned}
+use Rattle.rs_statement.specs.declared.sampling.Sampling.TheVariants.{ByScores}
 use Rattle.rs_statement.specs.Session.{StatementsRun}
 use Rattle.rs_events.proofs.OneRun.{OneFile}
 use Rattle.rs_statement.proofs.OneStep.{OneRun, Statements-one}
@@ -79,8 +80,8 @@ IsRunOf-one finds one answer (RunScript name evaluating) run other p q =
     ScriptRuns-one finds one (StatementsRun finds answer evaluating) (Statements-one finds one answer evaluating) name run other p q
 IsRunOf-one finds one answer (RunGenerated number rows) run other p q =
     let own : OneFile (finds_generated number rows) = λ name a b p q. sym p ∙ q in
-    p.2 ∙ ap unfetched (ScriptRuns-one (finds_generated number rows) own (StatementsRun (finds_generated number rows) answer (Planned number))
-    (Statements-one (finds_generated number rows) own answer (Planned number)) script_name p.0 q.0 p.1 q.1) ∙ sym q.2
+    p.2 ∙ ap unfetched (ScriptRuns-one (finds_generated number rows) own (StatementsRun (finds_generated number rows) answer (Planned (ByScores number)))
+    (Statements-one (finds_generated number rows) own answer (Planned (ByScores number))) script_name p.0 q.0 p.1 q.1) ∙ sym q.2
 
 pub IsRun-one : (finds : Finds) → OneFile finds → (answer : Answering) (words : List (List ℕ)) (run other : WordsRun) → IsRun finds answer words run → IsRun finds answer words other → run ≡ other
 IsRun-one finds one answer words run other = go (form_of words) where

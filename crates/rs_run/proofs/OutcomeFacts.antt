@@ -14,9 +14,9 @@ use Rattle.rs_run.specs.declared.fault.RunFault.TheVariants.{Statement, Usage}
 use Rattle.rs_run.specs.declared.status.Status.{Status}
 use Rattle.rs_run.specs.declared.status.Status.TheVariants as status
 use Rattle.rs_run.specs.Faults.{WordsRun, run_faults, status_of}
-use Rattle.rs_run.specs.Outcome.{HasCause, Outcome, Reports, RunEnds, RunsTo}
-use Rattle.rs_run.specs.Running.{IsRun, OfForm}
-use Rattle.rs_run.specs.Words.{Form, form_of}
+use Rattle.rs_run.specs.Outcome.{FormRunsTo, HasCause, Outcome, Reports, RunEnds}
+use Rattle.rs_run.specs.Running.{OfForm}
+use Rattle.rs_run.specs.Words.{Form}
 use Rattle.rs_events.proofs.RanFacts.{Did-apart}
 use Rattle.rs_statement.proofs.OwnFaults.{IsOwn}
 use Rattle.rs_run.proofs.OwnRuns.{OwnFault, own_fault}
@@ -157,25 +157,25 @@ module _ (run : WordsRun) (s : Status) (old new : Environment) (o : Reported run
     complete = complete-of;
   }
 
--- what follows of the outcome of a run of these words
-module _ (words : List (List ℕ)) (run : WordsRun) (s : Status) (old new : Environment) (is_run : IsRun (finds_in old.files.told) old.scorer.answer words run)
+-- what follows of the outcome of a run of this form
+module _ (form : Option Form) (run : WordsRun) (s : Status) (old new : Environment) (is_run : OfForm (finds_in old.files.told) old.scorer.answer form run)
     (o : Reported run s old new) where
-  own : OwnFault words run.fault
-  own = own_fault (finds_in old.files.told) old.scorer.answer words run is_run
+  own : OwnFault form run.fault
+  own = own_fault (finds_in old.files.told) old.scorer.answer form run is_run
 
-  -- it ends with Usage only where the words are of no form
-  usage-outcome : s ≡ status.Usage → form_of words ≡ None
+  -- it ends with Usage only where there is no form
+  usage-outcome : s ≡ status.Usage → form ≡ None
   unfolding OwnFault
   usage-outcome usage = of_halt o.halt o.is_fault (is_usage o.fault s (status-is run s old new o) usage) where
-    of_halt : (halt : Halt) → IsFaultOf run_faults run.fault halt o.fault → o.fault ≡ Some Usage → form_of words ≡ None
-    of_halt Ended is e = subst (OwnFault words) (sym is ∙ e) own
+    of_halt : (halt : Halt) → IsFaultOf run_faults run.fault halt o.fault → o.fault ≡ Some Usage → form ≡ None
+    of_halt Ended is e = subst (OwnFault form) (sym is ∙ e) own
     of_halt NoMemory is e = absurd (let both = sym is ∙ e in cc)
     of_halt (PutFailed part) is e = absurd (let both = sym is ∙ e in cc)
     of_halt (FetchFailed name) is e = absurd (let both = sym (is.2 ∙ ap Some is.1) ∙ e in cc)
     of_halt (CallFailed call) is e = absurd (let both = sym is ∙ e in cc)
 
-  -- where they are of no form, it ends with Usage, or there was no memory
-  outcome-usage : form_of words ≡ None → (s ≡ status.Usage) ⊎ (s ≡ status.Memory)
+  -- where there is none, it ends with Usage, or there was no memory
+  outcome-usage : form ≡ None → (s ≡ status.Usage) ⊎ (s ≡ status.Memory)
   outcome-usage none = of_halt o.halt o.is_fault o.did.halts where
     run_is : run ≡ fails Usage
     run_is = subst (λ form. OfForm (finds_in old.files.told) old.scorer.answer form run) none is_run
@@ -199,7 +199,7 @@ module _ (words : List (List ℕ)) (run : WordsRun) (s : Status) (old new : Envi
   unfolding OwnFault IsOwn
   write-outcome write = of_halt o.halt o.is_fault (is_write o.fault s (status-is run s old new o) write) o.did.halts where
     of_halt : (halt : Halt) → IsFaultOf run_faults run.fault halt o.fault → o.fault ≡ Some (Statement of_statement.Write) → HaltsAt halt o.did.rest old new → Faulted old.out new.out
-    of_halt Ended is e halts = absurd (subst (OwnFault words) (sym is ∙ e) own)
+    of_halt Ended is e halts = absurd (subst (OwnFault form) (sym is ∙ e) own)
     of_halt NoMemory is e halts = absurd (let both = sym is ∙ e in cc)
     of_halt (PutFailed part) is e halts = halts.4
     of_halt (FetchFailed name) is e halts = absurd (let both = sym (is.2 ∙ ap Some is.1) ∙ e in cc)
@@ -213,37 +213,37 @@ module _ (words : List (List ℕ)) (run : WordsRun) (s : Status) (old new : Envi
       of_halt o.halt o.is_fault found.0 found.1 o.did.halts where
         of_halt : (halt : Halt) → IsFaultOf run_faults run.fault halt o.fault → (predicate : List ℕ) → o.fault ≡ Some (Statement (of_statement.Probe predicate)) → HaltsAt halt o.did.rest old new
             → Faulted old.scorer.outside new.scorer.outside
-        of_halt Ended is predicate e halts = absurd (subst (OwnFault words) (sym is ∙ e) own)
+        of_halt Ended is predicate e halts = absurd (subst (OwnFault form) (sym is ∙ e) own)
         of_halt NoMemory is predicate e halts = absurd (let both = sym is ∙ e in cc)
         of_halt (PutFailed part) is predicate e halts = absurd (let both = sym is ∙ e in cc)
         of_halt (FetchFailed name) is predicate e halts = absurd (let both = sym (is.2 ∙ ap Some is.1) ∙ e in cc)
         of_halt (CallFailed call) is predicate e halts = halts.2
 
 -- all that a run tells, from its outcome
-pub record Tells (words : List (List ℕ)) (s : Status) (old new : Environment) : Type 0 where
-  pub run : RunsTo words s old new
-  pub usage : s ≡ status.Usage → form_of words ≡ None
-  pub no_form : form_of words ≡ None → (s ≡ status.Usage) ⊎ (s ≡ status.Memory)
+pub record Tells (form : Option Form) (s : Status) (old new : Environment) : Type 0 where
+  pub run : FormRunsTo form s old new
+  pub usage : s ≡ status.Usage → form ≡ None
+  pub no_form : form ≡ None → (s ≡ status.Usage) ⊎ (s ≡ status.Memory)
   pub write : s ≡ status.Write → Faulted old.out new.out
   pub probe : s ≡ status.Probe → Faulted old.scorer.outside new.scorer.outside
   pub keeps : KeepsEnvironment old new
 
-tells : (words : List (List ℕ)) (run : WordsRun) (s : Status) (old new : Environment) → IsRun (finds_in old.files.told) old.scorer.answer words run
-    → Reported run s old new → KeepsEnvironment old new → Tells words s old new
-tells words run s old new is o keeps = record {
+tells : (form : Option Form) (run : WordsRun) (s : Status) (old new : Environment) → OfForm (finds_in old.files.told) old.scorer.answer form run
+    → Reported run s old new → KeepsEnvironment old new → Tells form s old new
+tells form run s old new is o keeps = record {
   run = (run, is, outcome-of run s old new o);
-  usage = usage-outcome words run s old new is o;
-  no_form = outcome-usage words run s old new is o;
-  write = write-outcome words run s old new is o;
-  probe = probe-outcome words run s old new is o;
+  usage = usage-outcome form run s old new is o;
+  no_form = outcome-usage form run s old new is o;
+  write = write-outcome form run s old new is o;
+  probe = probe-outcome form run s old new is o;
   keeps = keeps;
 }
 
 -- of a call that answers without a fault, and of one that answers a fault that is reported
-pub tells-ok : (words : List (List ℕ)) (old new : Environment) → new.err ≡ old.err → Runs run_faults (IsRun (finds_in old.files.told) old.scorer.answer words) (Ok tt) old new
-    → Tells words status.Done old new
-tells-ok words old new same ran =
-    tells words ran.run status.Done old new ran.is
+pub tells-ok : (form : Option Form) (old new : Environment) → new.err ≡ old.err → Runs run_faults (OfForm (finds_in old.files.told) old.scorer.answer form) (Ok tt) old new
+    → Tells form status.Done old new
+tells-ok form old new same ran =
+    tells form ran.run status.Done old new ran.is
     (record {
       halt = ran.ran.halt;
       did = ran.ran.did;
@@ -253,10 +253,10 @@ tells-ok words old new same ran =
     })
     ran.ran.keeps
 
-pub tells-fault : (words : List (List ℕ)) (fault : RunFault) (s : Status) (old new : Environment) (err : Outside (List (List ℕ))) → Reports (Some fault) s old.err err → Keeps old.err err
-    → Runs run_faults (IsRun (finds_in old.files.told) old.scorer.answer words) (Err fault) old new → Tells words s old (record new { err = err })
-tells-fault words fault s old new err reports keeps ran =
-    tells words ran.run s old (record new { err = err }) ran.is
+pub tells-fault : (form : Option Form) (fault : RunFault) (s : Status) (old new : Environment) (err : Outside (List (List ℕ))) → Reports (Some fault) s old.err err → Keeps old.err err
+    → Runs run_faults (OfForm (finds_in old.files.told) old.scorer.answer form) (Err fault) old new → Tells form s old (record new { err = err })
+tells-fault form fault s old new err reports keeps ran =
+    tells form ran.run s old (record new { err = err }) ran.is
     (record {
       halt = ran.ran.halt;
       did = Did-apart ran.run.events ran.ran.halt old new old.err err old.references new.references ran.ran.did;

@@ -11,7 +11,7 @@ use Rattle.rs_statement.specs.declared.fault.Fault.TheVariants.{Memory}
 use Rattle.rs_run.specs.declared.fault.RunFault.{RunFault}
 use Rattle.rs_run.specs.declared.fault.RunFault.TheVariants.{Statement, Usage}
 use Rattle.rs_run.specs.Faults.{WordsRun}
-use Rattle.rs_run.specs.Words.{Form, RunGenerated, RunScript, Top, TopWords, form_of}
+use Rattle.rs_run.specs.Words.{Form, RunGenerated, RunScript, Top, TopWords}
 use Rattle.rs_statement.specs.Content.{content_of, or_table_fault, table_limit}
 use Rattle.rs_run.specs.Top.{best_rows, named_table, number_at, ranked_lines, scored_rows, top_lines, top_table}
 use Rattle.rs_run.specs.Plain.{ScriptRuns, TextRuns, unlexed, unparsed, runs, unread, read, or_text_fault, script_limit, source_of, without_mark}
@@ -20,11 +20,12 @@ use Rattle.rs_events.specs.Events.{Finds}
 use Rattle.rs_statement.specs.Steps.{Run}
 use Rattle.rs_events.specs.Run.{fetch_then}
 use Rattle.rs_run.specs.Generated.{finds_generated}
-use Rattle.rs_run.specs.Running.{IsRun, IsRunOf, OfForm}
+use Rattle.rs_run.specs.Running.{IsRunOf, OfForm}
 use Rattle.rs_statement.specs.Faults.{or_index_fault}
 use Rattle.rs_statement.specs.Lines.{rank_lines}
 use Rattle.rs_statement.specs.declared.evaluating.Evaluating.{Evaluating}
 use Rattle.rs_statement.specs.declared.evaluating.Evaluating.TheVariants.{Planned}
+use Rattle.rs_statement.specs.declared.sampling.Sampling.TheVariants.{ByScores}
 use Rattle.rs_statement.specs.Session.{StatementsRun, nothing}
 use Rattle.rs_statement.proofs.OwnFaults.{IsOwn, Own, OwnEnd, Own-content, Own-ranking, Own-statements, Own-table, Own-then, OwnRanking-scored}
 
@@ -63,16 +64,16 @@ unfolding Own OwnEnd
 Own-script finds answer evaluating name _ (unread there fault found e) = subst Own e (Own-source name there)
 Own-script finds answer evaluating name _ (read there script run found e is) = Own-runs finds answer evaluating script run is
 
--- the faults that the definition of a run ends with
-unfoldable pub OwnFault : List (List ℕ) → Option RunFault → Type 0
-OwnFault words None = Unit {0}
-OwnFault words (Some Usage) = form_of words ≡ None
-OwnFault words (Some (Statement fault)) = IsOwn fault
+-- the faults that the definition of a run of this form ends with
+unfoldable pub OwnFault : Option Form → Option RunFault → Type 0
+OwnFault form None = Unit {0}
+OwnFault form (Some Usage) = form ≡ None
+OwnFault form (Some (Statement fault)) = IsOwn fault
 
-OwnFault-end : (words : List (List ℕ)) (fault : Option Fault) → OwnEnd fault → OwnFault words (option_map Statement fault)
+OwnFault-end : (form : Option Form) (fault : Option Fault) → OwnEnd fault → OwnFault form (option_map Statement fault)
 unfolding OwnFault OwnEnd
-OwnFault-end words None own = tt
-OwnFault-end words (Some fault) own = own
+OwnFault-end form None own = tt
+OwnFault-end form (Some fault) own = own
 
 OwnEnd-lines : (name : List ℕ) (lines : Result (List (List ℕ)) Fault) → Own lines → OwnEnd (fetch_then name lines).fault
 unfolding Own OwnEnd
@@ -84,12 +85,10 @@ unfolding OwnEnd IsOwn
 OwnEnd-form finds answer (Top top) run is = subst (λ (r : Run). OwnEnd r.fault) (sym is.2) (OwnEnd-lines top.file (top_lines top is.0) (Own-top top is.0))
 OwnEnd-form finds answer (RunScript name evaluating) run is = Own-script finds answer evaluating name run is
 OwnEnd-form finds answer (RunGenerated number rows) run is =
-    subst (λ (r : Run). OwnEnd r.fault) (sym is.2) (Own-script (finds_generated number rows) answer (Planned number) script_name is.0 is.1)
+    subst (λ (r : Run). OwnEnd r.fault) (sym is.2) (Own-script (finds_generated number rows) answer (Planned (ByScores number)) script_name is.0 is.1)
 
-pub own_fault : (finds : Finds) (answer : Answering) (words : List (List ℕ)) (run : WordsRun) → IsRun finds answer words run → OwnFault words run.fault
+pub own_fault : (finds : Finds) (answer : Answering) (form : Option Form) (run : WordsRun) → OfForm finds answer form run → OwnFault form run.fault
 unfolding OwnFault
-own_fault finds answer words run = go (form_of words) refl where
-  go : (form : Option Form) → form_of words ≡ form → OfForm finds answer form run → OwnFault words run.fault
-  go None is_form is = subst (λ (r : WordsRun). OwnFault words r.fault) (sym is) is_form
-  go (Some form) is_form is =
-      subst (λ (r : WordsRun). OwnFault words r.fault) (sym is.2) (OwnFault-end words is.0.fault (OwnEnd-form finds answer form is.0 is.1))
+own_fault finds answer None run is = subst (λ (r : WordsRun). OwnFault None r.fault) (sym is) refl
+own_fault finds answer (Some form) run is =
+    subst (λ (r : WordsRun). OwnFault (Some form) r.fault) (sym is.2) (OwnFault-end (Some form) is.0.fault (OwnEnd-form finds answer form is.0 is.1))

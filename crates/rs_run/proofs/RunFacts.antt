@@ -80,25 +80,32 @@ module _ (answer : Answering) (top : TopWords) (environment : Environment) (file
 statement-faults : TellAs Statement statement_faults run_faults
 statement-faults = record { memory = refl; write = refl; failed_call = λ call. refl; failed_fetch = λ name fault is. ap Statement is }
 
--- a run of words whose form is known
-module _ (finds : Finds) (answer : Answering) (words : List (List ℕ)) (form : Form) (old new : Environment) (is_form : form_of words ≡ Some form) where
-  is-run : (own : Run) → IsRunOf finds answer form own → IsRun finds answer words (with_fault Statement own)
-  is-run own is = subst (λ form. OfForm finds answer form (with_fault Statement own)) (sym is_form) (own, is, refl)
-
-  pub Runs-form_ok : Runs (IsRunOf finds answer form) (Ok tt) old new → running.Runs run_faults (IsRun finds answer words) (Ok tt) old new
+-- a run of this form
+module _ (finds : Finds) (answer : Answering) (form : Form) (old new : Environment) where
+  pub Runs-form_ok : Runs (IsRunOf finds answer form) (Ok tt) old new → running.Runs run_faults (OfForm finds answer (Some form)) (Ok tt) old new
   Runs-form_ok ran = record {
     run = with_fault Statement ran.run;
-    is = is-run ran.run ran.is;
+    is = (ran.run, ran.is, refl);
     ran = Ran-told_ok Statement statement_faults run_faults statement-faults ran.run old new ran.ran;
   }
 
   pub Runs-form_err : (fault : Fault) → Runs (IsRunOf finds answer form) (Err fault) old new
-      → running.Runs run_faults (IsRun finds answer words) (Err (Statement fault)) old new
+      → running.Runs run_faults (OfForm finds answer (Some form)) (Err (Statement fault)) old new
   Runs-form_err fault ran = record {
     run = with_fault Statement ran.run;
-    is = is-run ran.run ran.is;
+    is = (ran.run, ran.is, refl);
     ran = Ran-told_err Statement statement_faults run_faults statement-faults ran.run old new fault ran.ran;
   }
+
+-- a run of words whose form is known
+module _ (finds : Finds) (answer : Answering) (words : List (List ℕ)) (form : Form) (old new : Environment) (is_form : form_of words ≡ Some form) where
+  pub Runs-words_ok : Runs (IsRunOf finds answer form) (Ok tt) old new → running.Runs run_faults (IsRun finds answer words) (Ok tt) old new
+  Runs-words_ok ran = subst (λ form. running.Runs run_faults (OfForm finds answer form) (Ok tt) old new) (sym is_form) (Runs-form_ok finds answer form old new ran)
+
+  pub Runs-words_err : (fault : Fault) → Runs (IsRunOf finds answer form) (Err fault) old new
+      → running.Runs run_faults (IsRun finds answer words) (Err (Statement fault)) old new
+  Runs-words_err fault ran =
+      subst (λ form. running.Runs run_faults (OfForm finds answer form) (Err (Statement fault)) old new) (sym is_form) (Runs-form_err finds answer form old new fault ran)
 
 -- words of no form
 pub Runs-usage : (finds : Finds) (answer : Answering) (words : List (List ℕ)) (environment : Environment) → form_of words ≡ None

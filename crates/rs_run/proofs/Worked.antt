@@ -13,6 +13,7 @@ use Rattle.rs_table.specs.declared.fault.TableFault.TheVariants as table
 use Rattle.rs_statement.specs.declared.fault.Fault.TheVariants as fault
 use Rattle.rs_statement.specs.declared.fault.SessionFault.TheVariants as session
 use Rattle.rs_statement.specs.declared.evaluating.Evaluating.TheVariants.{Plainly, Planned}
+use Rattle.rs_statement.specs.declared.sampling.Sampling.TheVariants.{ByScores}
 use Rattle.rs_run.specs.Words.{Form, RunGenerated, RunScript, Top, form_of, top_form}
 use Rattle.rs_statement.specs.declared.script_fault.ScriptFault.TheVariants as script
 use Rattle.rs_statement.specs.Faults.{only}
@@ -249,12 +250,12 @@ form_of_plain_top : form_of (codes "plain" ∷ codes "top" ∷ []) ≡ Some (Run
 form_of_plain_top = refl
 
 -- the form of `run`
-form_of_run : form_of (codes "run" ∷ codes "s.sql" ∷ codes "007" ∷ []) ≡ Some (RunScript (codes "s.sql") (Planned 7))
+form_of_run : form_of (codes "run" ∷ codes "s.sql" ∷ codes "007" ∷ []) ≡ Some (RunScript (codes "s.sql") (Planned (ByScores 7)))
 unfolding digits
 form_of_run = refl
 
 -- the greatest seed, and one more
-form_of_greatest_seed : form_of (codes "run" ∷ codes "s.sql" ∷ codes "18446744073709551615" ∷ []) ≡ Some (RunScript (codes "s.sql") (Planned 18446744073709551615))
+form_of_greatest_seed : form_of (codes "run" ∷ codes "s.sql" ∷ codes "18446744073709551615" ∷ []) ≡ Some (RunScript (codes "s.sql") (Planned (ByScores 18446744073709551615)))
 unfolding digits
 form_of_greatest_seed = refl
 

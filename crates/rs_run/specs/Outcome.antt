@@ -10,7 +10,8 @@ use Rattle.rs_run.specs.declared.fault.RunFault.{RunFault}
 use Rattle.rs_run.specs.declared.status.Status.{Status}
 use Rattle.rs_run.specs.declared.status.Status.TheVariants as statuses
 use Rattle.rs_run.specs.Faults.{WordsRun, run_fault_line, run_faults, status_of}
-use Rattle.rs_run.specs.Running.{IsRun}
+use Rattle.rs_run.specs.Running.{IsRun, OfForm}
+use Rattle.rs_run.specs.Words.{Form}
 
 -- one line was put; where the sink failed, a part of it
 pub record PutsLine (line : List ℕ) (old new : Outside (List (List ℕ))) : Type 0 where
@@ -52,6 +53,10 @@ pub record Outcome (run : WordsRun) (status : Status) (old new : Environment) : 
   pub cause : HasCause run status old new
   pub well : status ≡ statuses.Done → (run.fault ≡ None) × Done run.events old new
   pub complete : NoneFailed old new → RunEnds run status old new ⊎ (status ≡ statuses.Memory)
+
+-- the run of this form, over what the files tell at first and what the scorer answers, had this outcome
+abbrev pub FormRunsTo : Option Form → Status → Environment → Environment → Type 0
+FormRunsTo form status old new = (run : WordsRun) × OfForm (finds_in old.files.told) old.scorer.answer form run × Outcome run status old new
 
 -- the run of these words, over what the files tell at first and what the scorer answers, had this outcome
 abbrev pub RunsTo : List (List ℕ) → Status → Environment → Environment → Type 0

@@ -5,6 +5,7 @@ use Rattle.rs_gen.specs.Files.{script_name}
 use Rattle.rs_run.specs.Generated.{finds_generated, unfetched}
 use Rattle.rs_statement.specs.declared.evaluating.Evaluating.{Evaluating}
 use Rattle.rs_statement.specs.declared.evaluating.Evaluating.TheVariants.{Planned}
+use Rattle.rs_statement.specs.declared.sampling.Sampling.TheVariants.{ByScores}
 use Rattle.rs_syntax.specs.Syntax.{Command}
 use Rattle.rs_run.specs.Faults.{WordsRun}
 use Rattle.rs_run.specs.declared.fault.RunFault.TheVariants.{Statement, Usage}
@@ -25,7 +26,7 @@ IsScriptRun finds answer name evaluating run = ScriptRuns finds (StatementsRun f
 -- the run of the generated script: what the word `run` does over the generated files with the number as its seed, without its fetches
 abbrev pub IsGeneratedRun : Answering → ℕ → ℕ → Run → Type 0
 IsGeneratedRun answer number rows run =
-    (whole : Run) × IsScriptRun (finds_generated number rows) answer script_name (Planned number) whole × (run ≡ unfetched whole)
+    (whole : Run) × IsScriptRun (finds_generated number rows) answer script_name (Planned (ByScores number)) whole × (run ≡ unfetched whole)
 
 -- the run of a form
 abbrev pub IsRunOf : Finds → Answering → Form → Run → Type 0

@@ -4,6 +4,7 @@ use Rattle.std.specs.Str.{bytes_eq}
 use Rattle.rs_value.specs.Number.{decimal_value}
 use Rattle.rs_statement.specs.declared.evaluating.Evaluating.{Evaluating}
 use Rattle.rs_statement.specs.declared.evaluating.Evaluating.TheVariants.{Plainly, Planned}
+use Rattle.rs_statement.specs.declared.sampling.Sampling.TheVariants.{ByScores}
 
 -- what `top FILE COLUMN MAX K` asks for
 pub record TopWords : Type 0 where
@@ -48,7 +49,7 @@ plain_form _ = None
 -- the words `run SCRIPT SEED`, SEED from 0 to 18,446,744,073,709,551,615
 abbrev pub run_form : List (List ℕ) → Option Form
 run_form (word ∷ script ∷ seed ∷ []) =
-    if bytes_eq word (codes "run") then option_map (λ seed. RunScript script (Planned seed)) (number_word 0 18446744073709551615 seed) else None
+    if bytes_eq word (codes "run") then option_map (λ seed. RunScript script (Planned (ByScores seed))) (number_word 0 18446744073709551615 seed) else None
 run_form _ = None
 
 -- the words `gen NUMBER ROWS`, NUMBER from 0 to 4,294,967,295 and ROWS from 1 to 2,000

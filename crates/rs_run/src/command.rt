@@ -1,14 +1,14 @@
-ghost use Rattle.std.specs.Prelude.{◌≡◌, ◌⊎◌, ℕ, None, Some};
+ghost use Rattle.std.specs.Prelude.{◌≡◌, ◌≢◌, ◌⊎◌, ℕ, None, Some};
 ghost use Rattle.rs_value.specs.Outside.{Faulted};
 ghost use Rattle.rs_events.specs.Environment.{Environment, KeepsEnvironment, environment};
 ghost use Rattle.rs_events.specs.Events.{finds_in};
 ghost use Rattle.rs_events.specs.Running as running;
 ghost use Rattle.rs_statement.specs.Parts.Steps.{Runs};
 ghost use Rattle.rs_run.specs.Faults.{run_faults};
-ghost use Rattle.rs_run.specs.Outcome.{RunsTo};
+ghost use Rattle.rs_run.specs.Outcome.{FormRunsTo, RunsTo};
 ghost use Rattle.rs_run.specs.Parts.CommandLine.{form_of_command_line};
 ghost use Rattle.rs_run.specs.Running.{IsRun, IsRunOf};
-ghost use Rattle.rs_run.specs.Words.{RunGenerated, form_of};
+ghost use Rattle.rs_run.specs.Words.{RunGenerated, RunScript, form_of};
 
 use crate::fault::RunFault;
 use crate::generated::run_generated;
@@ -19,7 +19,7 @@ use crate::top::top;
 use crate::words::{CommandLine, command_line_of};
 use rs_expr::Scorer;
 use rs_outside::{Files, Sink};
-use rs_statement::Fault;
+use rs_statement::{Evaluating, Fault};
 use rs_value::Text;
 use std::alloc::Global;
 
@@ -60,6 +60,37 @@ pub fn run<F: Files, S: Scorer, O: Sink, E: Sink>(
     match answer(alloc, words, files, scorer, out) {
         Ok(()) => Status::Done,
         Err(fault) => report(alloc, &fault, err),
+    }
+}
+
+/// Does what the script of a name says, with its queries evaluated so: what `run` does for the words `plain SCRIPT` and
+/// `run SCRIPT SEED`. Beside these, it may choose plans by guesses, for which `run` has no word.
+pub fn run_file<F: Files, S: Scorer, O: Sink, E: Sink>(
+    alloc: Global,
+    evaluating: Evaluating,
+    script: &Text,
+    files: &mut F,
+    scorer: &mut S,
+    out: &mut O,
+    err: &mut E,
+) -> Status
+    // The clauses are those of `run`. Usage never comes, since there are no words.
+    ensures run { FormRunsTo (Some (RunScript script.now evaluating)) result
+        (environment (F.state files.old) (S.state scorer.old) (O.state out.old) (E.state err.old))
+        (environment (F.state files.new) (S.state scorer.new) (O.state out.new) (E.state err.new)) }
+    ensures usage { result ≢ Status.Usage }
+    ensures write { result ≡ Status.Write → Faulted (O.state out.old) (O.state out.new) }
+    ensures probe { result ≡ Status.Probe → Faulted (S.state scorer.old).outside (S.state scorer.new).outside }
+    ensures keeps { KeepsEnvironment
+        (environment (F.state files.old) (S.state scorer.old) (O.state out.old) (E.state err.old))
+        (environment (F.state files.new) (S.state scorer.new) (O.state out.new) (E.state err.new)) }
+{
+    match run_script(alloc, evaluating, script, files, scorer, out) {
+        Ok(()) => Status::Done,
+        Err(fault) => {
+            let fault = RunFault::Statement(fault);
+            report(alloc, &fault, err)
+        }
     }
 }
 

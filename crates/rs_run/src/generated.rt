@@ -10,7 +10,7 @@ use crate::plain::run_script;
 use rs_expr::Scorer;
 use rs_gen::generate;
 use rs_outside::Sink;
-use rs_statement::{Evaluating, Fault};
+use rs_statement::{Evaluating, Fault, Sampling};
 use rs_value::{Memory, Text};
 use std::alloc::Global;
 use std::hash::RandomState;
@@ -31,7 +31,7 @@ pub fn run_generated<S: Scorer, O: Sink>(
 {
     let name = script_name(alloc)?;
     let mut files = generate(alloc, hash_keys, number, rows)?;
-    let evaluating = Evaluating::Planned(number as u64);
+    let evaluating = Evaluating::Planned(Sampling::ByScores(number as u64));
     run_script(alloc, evaluating, &name, &mut files, scorer, out)
 }
 

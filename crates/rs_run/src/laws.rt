@@ -10,6 +10,7 @@ ghost use Rattle.rs_table.specs.Relation.{Relation};
 ghost use Rattle.rs_catalog.specs.Catalog.{with_index, with_predicate, with_table};
 ghost use Rattle.rs_catalog.specs.declared.index.IndexDef.{IndexDef};
 ghost use Rattle.rs_statement.specs.declared.evaluating.Evaluating.TheVariants.{Plainly, Planned};
+ghost use Rattle.rs_statement.specs.declared.sampling.Sampling.{Sampling};
 ghost use Rattle.rs_statement.specs.Steps.{Run};
 ghost use Rattle.rs_events.specs.Events.{finds_in, found_in, puts};
 ghost use Rattle.rs_run.specs.Running.{HasNoExplain, IsRun, IsRunOf};
@@ -38,15 +39,15 @@ pub fn words_have_a_run()
 
 /// A script without EXPLAIN that ends without a fault under `plain` and under `run`, whatever the seed, puts the same rows in the same
 /// order under both, over the same files and the same answers of a scorer: those of its queries, and those of its cursors, among CREATE
-/// statements and queries as they may stand.
+/// statements and queries as they may stand. So it does where plans are chosen by guesses.
 pub fn plain_and_run_agree()
-    ensures files { (there : List ℕ → Option (List ℕ)) (answer : Answering) (name : List ℕ) (seed : ℕ) (run other : Run)
+    ensures files { (there : List ℕ → Option (List ℕ)) (answer : Answering) (name : List ℕ) (sampling : Sampling) (run other : Run)
         → HasNoExplain (found_in there) name
-        → IsRunOf (found_in there) answer (RunScript name Plainly) run → IsRunOf (found_in there) answer (RunScript name (Planned seed)) other
+        → IsRunOf (found_in there) answer (RunScript name Plainly) run → IsRunOf (found_in there) answer (RunScript name (Planned sampling)) other
         → run.fault ≡ None → other.fault ≡ None → puts run.events ≡ puts other.events }
-    ensures told { (told : FilesTold) (answer : Answering) (name : List ℕ) (seed : ℕ) (run other : Run)
+    ensures told { (told : FilesTold) (answer : Answering) (name : List ℕ) (sampling : Sampling) (run other : Run)
         → HasNoExplain (finds_in (Some told)) name
-        → IsRunOf (finds_in (Some told)) answer (RunScript name Plainly) run → IsRunOf (finds_in (Some told)) answer (RunScript name (Planned seed)) other
+        → IsRunOf (finds_in (Some told)) answer (RunScript name Plainly) run → IsRunOf (finds_in (Some told)) answer (RunScript name (Planned sampling)) other
         → run.fault ≡ None → other.fault ≡ None → puts run.events ≡ puts other.events }
 {
     plans_give_the_answer();

@@ -15,8 +15,8 @@ mod status;
 mod top;
 mod words;
 
-pub use command::run;
+pub use command::{run, run_file};
 pub use fault::RunFault;
 pub use laws::{cursors_keep_their_rows, one_run, plain_and_run_agree, words_have_a_run};
-pub use rs_statement::{Fault, ScriptFault, SessionFault};
+pub use rs_statement::{Evaluating, Fault, Sampling, ScriptFault, SessionFault};
 pub use status::Status;

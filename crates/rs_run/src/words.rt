@@ -2,7 +2,7 @@ ghost use Rattle.std.specs.Prelude.{◌≡◌, option_map};
 ghost use Rattle.rs_run.specs.Words.{form_of, gen_form, number_word, plain_form, run_form, top_form};
 ghost use Rattle.rs_run.specs.Parts.CommandLine.{form_of_command_line};
 
-use rs_statement::Evaluating;
+use rs_statement::{Evaluating, Sampling};
 use rs_value::{Text, decimal_of};
 
 /// The greatest MAX of `top`.
@@ -96,7 +96,8 @@ fn run_command(words: &[Text]) -> Option<CommandLine<'_>>
         return None;
     }
     let seed = number_word(seed, 0, u64::MAX)?;
-    Some(CommandLine::RunScript(script, Evaluating::Planned(seed)))
+    let evaluating = Evaluating::Planned(Sampling::ByScores(seed));
+    Some(CommandLine::RunScript(script, evaluating))
 }
 
 /// The command of the words `gen NUMBER ROWS`.

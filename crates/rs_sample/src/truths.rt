@@ -13,7 +13,7 @@ use crate::choices::choices;
 use rs_catalog::Catalog;
 use rs_query::Block;
 use rs_rank::Ids;
-use rs_value::{List, Memory, Value};
+use rs_value::{List, Memory};
 use std::alloc::Global;
 
 /// Whether each conjunct of a block holds of each choice among the samples of its entries.
@@ -28,24 +28,21 @@ pub(crate) fn evaluate_conjuncts(
     ensures { IfOk result (λ truths. truths.items ≡ truths_by_conjunct catalog.now block.now samples.now) }
 {
     let mut truths = Vec::new(alloc);
-    let mut cells = Vec::new(alloc);
     for (place, conjunct) in block.conjuncts.items().iter().enumerate() {
         let choices = choices(alloc, samples, conjunct.entries())?;
-        let held = evaluate_conjunct(alloc, catalog, block, place as u8, &choices, &mut cells)?;
+        let held = evaluate_conjunct(alloc, catalog, block, place as u8, &choices)?;
         truths.push(List::of(held))?;
     }
     Ok(truths)
 }
 
-/// Whether the conjunct at a place, counted from 0, holds of each of these choices of rows of its entries. The list is kept from
-/// call to call, and its memory stays.
+/// Whether the conjunct at a place, counted from 0, holds of each of these choices of rows of its entries.
 fn evaluate_conjunct(
     alloc: Global,
     catalog: &Catalog,
     block: &Block,
     place: u8,
     choices: &[[u32; 6]],
-    cells: &mut Vec<Value>,
 ) -> Result<Vec<bool>, Memory>
     requires block { IsBlock catalog.now block.now }
     requires place { place < length block.now.conjuncts }
@@ -63,7 +60,7 @@ fn evaluate_conjunct(
             mask,
             rows: *rows,
         };
-        truths.push(block.holds_with(catalog, only, &ids, cells)?)?;
+        truths.push(block.holds(catalog, only, &ids))?;
     }
     Ok(truths)
 }

@@ -12,6 +12,7 @@ use Rattle.rs_sample.specs.Cards.{BlockCards}
 use Rattle.rs_enum.specs.Texts.{text_of}
 use Rattle.rs_exec.specs.Asking.{world_of}
 use Rattle.rs_exec.specs.Cursors.{CursorState, IsNew, StandsFor, asks_after, asks_of, is_over, plan_of}
+use Rattle.rs_statement.specs.declared.sampling.Sampling.{Sampling}
 use Rattle.rs_statement.specs.declared.fault.Fault.{Fault}
 use Rattle.rs_statement.specs.declared.fault.Fault.TheVariants.{Memory}
 use Rattle.rs_statement.specs.Parts.Asks.{AskedForAll, AskedOnce, IsAt, asks_left, call_step, left_of, most_asks}
@@ -160,15 +161,15 @@ text-started catalogue answer query tree started cards new =
     ∙ ap (λ n. text_of catalogue query cards tree (Some (counts_of_plan (world_of catalogue answer query) tree n))) (max-none (asks_in_all (world_of catalogue answer query) tree))
 
 -- the text that EXPLAIN ANALYZE puts, and what it does behind the sample of a query
-abbrev pub analyzed_lines : Answering → CatalogDef → ℕ → Query → Step CatalogDef
-analyzed_lines answer catalogue seed query =
+abbrev pub analyzed_lines : Answering → CatalogDef → Sampling → Query → Step CatalogDef
+analyzed_lines answer catalogue sampling query =
     let w = world_of catalogue answer query in
-    let tree = plan_for answer catalogue seed query in
-    lines_step (text_of catalogue query (cards_for answer catalogue seed query) tree (Some (counts_of_plan w tree (asks_in_all w tree))) ∷ []) catalogue
+    let tree = plan_for answer catalogue sampling query in
+    lines_step (text_of catalogue query (cards_for answer catalogue sampling query) tree (Some (counts_of_plan w tree (asks_in_all w tree))) ∷ []) catalogue
 
-abbrev pub analyzing : Answering → CatalogDef → ℕ → Query → Step CatalogDef
-analyzing answer catalogue seed query =
-    then_step (silent (planned_step (world_of catalogue answer query) (plan_for answer catalogue seed query))) (analyzed_lines answer catalogue seed query)
+abbrev pub analyzing : Answering → CatalogDef → Sampling → Query → Step CatalogDef
+analyzing answer catalogue sampling query =
+    then_step (silent (planned_step (world_of catalogue answer query) (plan_for answer catalogue sampling query))) (analyzed_lines answer catalogue sampling query)
 
 -- asks of one plan, over the same answers
 pub same-asks : (catalogue : CatalogDef) (query : Query) (answer own : Answering) (plan made : PlanTree) (result : Result (Unit {0}) Fault) (old new : Environment) → own ≡ answer → made ≡ plan

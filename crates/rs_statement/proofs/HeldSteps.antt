@@ -38,6 +38,7 @@ use Rattle.rs_exec.specs.Asking.{world_of}
 use Rattle.rs_exec.specs.Cursors.{CursorState, StandsFor}
 use Rattle.rs_catalog.specs.IndexesHold.{IndexesHold}
 use Rattle.rs_catalog.proofs.HeldFacts.{held-with_index, held-with_predicate, held-with_table}
+use Rattle.rs_statement.specs.declared.sampling.Sampling.{Sampling}
 use Rattle.rs_statement.specs.declared.evaluating.Evaluating.{Evaluating}
 use Rattle.rs_statement.specs.declared.evaluating.Evaluating.TheVariants.{Planned, Plainly}
 use Rattle.rs_statement.specs.declared.fault.Fault.{Fault}
@@ -125,9 +126,9 @@ module _ (answer : Answering) (catalogue : CatalogDef) (P : CatalogDef → Type 
     go : (outcome : Result (List Answer) PlainFault) → Leaves (query_outcome catalogue outcome)
     go (Ok rows) = leaves-same
     go (Err fault) = λ next e. absurd cc
-  leaves-query (Planned seed) query =
+  leaves-query (Planned sampling) query =
       let w = world_of catalogue answer query in
-      leaves-asks w (plan_for answer catalogue seed query) 0 (ask_count (limit_of query) (length (list_of_plan w (plan_for answer catalogue seed query)))) refl
+      leaves-asks w (plan_for answer catalogue sampling query) 0 (ask_count (limit_of query) (length (list_of_plan w (plan_for answer catalogue sampling query)))) refl
 
   leaves-select : (evaluating : Evaluating) (query : syntax.Query) → Leaves (select_step evaluating answer catalogue query).outcome
   leaves-select evaluating query = go (or_bind_fault (bound_query catalogue query)) where
@@ -142,22 +143,22 @@ module _ (answer : Answering) (catalogue : CatalogDef) (P : CatalogDef → Type 
 
   leaves-explain : (evaluating : Evaluating) (query : syntax.Query) → Leaves (explain_step evaluating answer catalogue query).outcome
   leaves-explain Plainly query = leaves-bound query
-  leaves-explain (Planned seed) query = go (or_bind_fault (bound_query catalogue query)) where
-    go : (bound : Result Query Fault) → Leaves (refused_or (explained_step answer catalogue seed) bound).outcome
+  leaves-explain (Planned sampling) query = go (or_bind_fault (bound_query catalogue query)) where
+    go : (bound : Result Query Fault) → Leaves (refused_or (explained_step answer catalogue sampling) bound).outcome
     go (Ok bound) = leaves-same
     go (Err fault) = leaves-none fault
 
-  leaves-analyzed : (seed : ℕ) (query : Query) → Leaves (analyzed_step answer catalogue seed query).outcome
-  leaves-analyzed seed query =
+  leaves-analyzed : (sampling : Sampling) (query : Query) → Leaves (analyzed_step answer catalogue sampling query).outcome
+  leaves-analyzed sampling query =
       let w = world_of catalogue answer query in
-      let tree = plan_for answer catalogue seed query in
-      leaves-then (silent (planned_step w tree)) (analyzed_lines answer catalogue seed query) leaves-same
+      let tree = plan_for answer catalogue sampling query in
+      leaves-then (silent (planned_step w tree)) (analyzed_lines answer catalogue sampling query) leaves-same
 
   leaves-analyze : (evaluating : Evaluating) (query : syntax.Query) → Leaves (analyze_step evaluating answer catalogue query).outcome
   leaves-analyze Plainly query = leaves-bound query
-  leaves-analyze (Planned seed) query = go (or_bind_fault (bound_query catalogue query)) where
-    go : (bound : Result Query Fault) → Leaves (refused_or (analyzed_step answer catalogue seed) bound).outcome
-    go (Ok bound) = leaves-analyzed seed bound
+  leaves-analyze (Planned sampling) query = go (or_bind_fault (bound_query catalogue query)) where
+    go : (bound : Result Query Fault) → Leaves (refused_or (analyzed_step answer catalogue sampling) bound).outcome
+    go (Ok bound) = leaves-analyzed sampling bound
     go (Err fault) = leaves-none fault
 
   pub kept-step : (finds : Finds) (evaluating : Evaluating) (command : Command) (step : Step CatalogDef) (next : CatalogDef) → IsWritten command

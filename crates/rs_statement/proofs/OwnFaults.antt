@@ -45,6 +45,7 @@ use Rattle.rs_exec.specs.declared.fault.ExecFault.{ExecFault}
 use Rattle.rs_exec.specs.declared.fault.ExecFault.TheVariants as exec
 use Rattle.rs_typing.specs.declared.fault.BindFault.{BindFault}
 use Rattle.rs_typing.specs.declared.fault.BindFault.TheVariants as bind
+use Rattle.rs_statement.specs.declared.sampling.Sampling.{Sampling}
 use Rattle.rs_statement.specs.declared.fault.Fault.{Fault}
 use Rattle.rs_statement.specs.declared.fault.Fault.TheVariants.{Memory, Write, Read, Table, BadScore, Probe, Script, Session}
 use Rattle.rs_statement.specs.Content.{content_of, or_read_fault, or_table_fault, table_limit}
@@ -212,9 +213,9 @@ Own-asks w tree n (suc count) =
 Own-query_step : (evaluating : Evaluating) (answer : Answering) (catalogue : CatalogDef) (query : Query) → Own (query_step evaluating answer catalogue query).outcome
 Own-query_step Plainly answer catalogue query =
     Own-query catalogue (evaluation_of answer catalogue query (all_rows catalogue query)).outcome (OwnAnswer-evaluation answer catalogue query (all_rows catalogue query))
-Own-query_step (Planned seed) answer catalogue query =
+Own-query_step (Planned sampling) answer catalogue query =
     let w = world_of catalogue answer query in
-    let tree = plan_for answer catalogue seed query in
+    let tree = plan_for answer catalogue sampling query in
     Own-asks w tree 0 (ask_count (limit_of query) (length (list_of_plan w tree)))
 
 Own-explain : (catalogue : CatalogDef) (query : syntax.Query) → Own (explain_outcome catalogue query)
@@ -230,20 +231,20 @@ Own-refused does (Err fault) own goes = own
 Own-explain_step : (evaluating : Evaluating) (answer : Answering) (catalogue : CatalogDef) (query : syntax.Query) → Own (explain_step evaluating answer catalogue query).outcome
 unfolding Own IsOwn
 Own-explain_step Plainly answer catalogue query = Own-explain catalogue query
-Own-explain_step (Planned seed) answer catalogue query = Own-refused (explained_step answer catalogue seed) _ (Own-bind (bound_query catalogue query)) (λ query. tt)
+Own-explain_step (Planned sampling) answer catalogue query = Own-refused (explained_step answer catalogue sampling) _ (Own-bind (bound_query catalogue query)) (λ query. tt)
 
-Own-analyzed : (answer : Answering) (catalogue : CatalogDef) (seed : ℕ) (query : Query) → Own (analyzed_step answer catalogue seed query).outcome
+Own-analyzed : (answer : Answering) (catalogue : CatalogDef) (sampling : Sampling) (query : Query) → Own (analyzed_step answer catalogue sampling query).outcome
 unfolding Own
-Own-analyzed answer catalogue seed query =
+Own-analyzed answer catalogue sampling query =
     let w = world_of catalogue answer query in
-    let tree = plan_for answer catalogue seed query in
-    Own-then_step (silent (planned_step w tree)) (analyzed_lines answer catalogue seed query) (Own-asks w tree 0 (asks_in_all w tree)) tt
+    let tree = plan_for answer catalogue sampling query in
+    Own-then_step (silent (planned_step w tree)) (analyzed_lines answer catalogue sampling query) (Own-asks w tree 0 (asks_in_all w tree)) tt
 
 Own-analyze_step : (evaluating : Evaluating) (answer : Answering) (catalogue : CatalogDef) (query : syntax.Query) → Own (analyze_step evaluating answer catalogue query).outcome
 unfolding Own IsOwn
 Own-analyze_step Plainly answer catalogue query = Own-explain catalogue query
-Own-analyze_step (Planned seed) answer catalogue query =
-    Own-refused (analyzed_step answer catalogue seed) _ (Own-bind (bound_query catalogue query)) (Own-analyzed answer catalogue seed)
+Own-analyze_step (Planned sampling) answer catalogue query =
+    Own-refused (analyzed_step answer catalogue sampling) _ (Own-bind (bound_query catalogue query)) (Own-analyzed answer catalogue sampling)
 
 Own-select : (evaluating : Evaluating) (answer : Answering) (catalogue : CatalogDef) (query : syntax.Query) → Own (select_step evaluating answer catalogue query).outcome
 unfolding Own IsOwn
@@ -311,7 +312,7 @@ Own-declare evaluating answer state name query =
 
       opens : (evaluating : Evaluating) (bound : Query) → Own (opened_step evaluating answer name.text state bound).outcome
       opens Plainly bound = ready (evaluation_of answer state.catalogue bound (all_rows state.catalogue bound)).outcome (OwnAnswer-evaluation answer state.catalogue bound (all_rows state.catalogue bound))
-      opens (Planned seed) bound = tt
+      opens (Planned sampling) bound = tt
 
 Own-fetch : (answer : Answering) (state : State) (count : ℤ × Span) (name : Name) → Own (fetch_step answer state count name).outcome
 unfolding Own

@@ -30,6 +30,7 @@ use Rattle.rs_plan.specs.Trees.{PlanTree}
 use Rattle.rs_exec.specs.Asking.{world_of}
 use Rattle.rs_exec.specs.Cursors.{HasFewTerms, answer_for, answers_of, next_answer}
 use Rattle.rs_exec.specs.declared.fault.ExecFault.{ExecFault}
+use Rattle.rs_statement.specs.declared.sampling.Sampling.{Sampling}
 use Rattle.rs_statement.specs.declared.evaluating.Evaluating.TheVariants.{Planned, Plainly}
 use Rattle.rs_statement.specs.declared.fault.Fault.{Fault}
 use Rattle.rs_statement.specs.Lines.{ComeFirst, rank_lines}
@@ -37,7 +38,7 @@ use Rattle.rs_statement.specs.Planned.{ask_count, ask_outcome, ask_step, asks_fr
 use Rattle.rs_events.specs.Events.{Event, Finds, Put, calls_in, puts}
 use Rattle.rs_statement.specs.Steps.{Run, Step}
 use Rattle.rs_events.specs.Run.{behind}
-use Rattle.rs_statement.specs.Sampled.{sample_step, sampling}
+use Rattle.rs_statement.specs.Sampled.{sample_inquiry, sample_step}
 use Rattle.rs_events.specs.Sequence.{RunOf, RunsOn, still, then_step}
 use Rattle.rs_statement.specs.Statements.{Does, IsNoExplain, answer_lines, evaluation_step, or_bind_fault, query_outcome, query_step, refused_or, select_step}
 use Rattle.rs_statement.specs.Session.{ByPlan, DoesInSession, OpenCursor, Ready, State, StatementsRun, asked_more, beside_cursors, close_outcome, cursor_named, declare_step, fetch_step, fetched_from, fetched_step, next_lines, next_rows, opened_step, ready_outcome, room_for_cursor, with_asks, with_cursor, without_cursor}
@@ -171,20 +172,20 @@ puts-then_still events (Ok next) state = ap puts (append-nil events)
 puts-then_still events (Err fault) state = refl
 
 -- a sample puts nothing
-puts-behind : {S : Type 0} (seed : ℕ) (catalogue : CatalogDef) (query : Query) (rest : Step S) → puts (then_step (sample_step catalogue seed query) rest).events ≡ puts rest.events
-puts-behind seed catalogue query rest =
-    puts-append (sample_step catalogue seed query).events rest.events ∙ ap (λ lines. lines ++ puts rest.events) (puts-inquiry (sampling catalogue seed query) [])
+puts-behind : {S : Type 0} (sampling : Sampling) (catalogue : CatalogDef) (query : Query) (rest : Step S) → puts (then_step (sample_step catalogue sampling query) rest).events ≡ puts rest.events
+puts-behind sampling catalogue query rest =
+    puts-append (sample_step catalogue sampling query).events rest.events ∙ ap (λ lines. lines ++ puts rest.events) (puts-inquiry (sample_inquiry catalogue sampling query) [])
 
 module _ (give : GiveAnswers) (answer : Answering) where
   -- what a query puts by its plan comes first among the lines of its answer, whatever ends it
-  pub first-query : (seed : ℕ) (catalogue : CatalogDef) (query : syntax.Query) (bound : Query) → IsWrittenQuery query → bound_query catalogue query ≡ Ok bound
-      → ComeFirst (puts (query_step (Planned seed) answer catalogue bound).events) (rank_lines 1 (answer_of answer catalogue bound (all_rows catalogue bound)))
-  first-query seed catalogue query bound written is =
+  pub first-query : (sampling : Sampling) (catalogue : CatalogDef) (query : syntax.Query) (bound : Query) → IsWrittenQuery query → bound_query catalogue query ≡ Ok bound
+      → ComeFirst (puts (query_step (Planned sampling) answer catalogue bound).events) (rank_lines 1 (answer_of answer catalogue bound (all_rows catalogue bound)))
+  first-query sampling catalogue query bound written is =
       let formed = unfiltered-formed catalogue query bound written is in
       let w = world_of catalogue answer bound in
-      let tree = plan_for answer catalogue seed bound in
-      let plans = least-plan catalogue bound (cards_for answer catalogue seed bound) formed in
-      subst (λ lines. ComeFirst lines (rank_lines 1 (answer_of answer catalogue bound (all_rows catalogue bound)))) (sym (puts-behind seed catalogue bound (planned_step w tree)))
+      let tree = plan_for answer catalogue sampling bound in
+      let plans = least-plan catalogue bound (cards_for answer catalogue sampling bound) formed in
+      subst (λ lines. ComeFirst lines (rank_lines 1 (answer_of answer catalogue bound (all_rows catalogue bound)))) (sym (puts-behind sampling catalogue bound (planned_step w tree)))
       (subst (λ answers. ComeFirst (puts (planned_step w tree).events) (rank_lines 1 answers)) (give w tree (few-terms catalogue bound formed) plans) (first-planned w tree))
 
   -- and what a FETCH puts of a cursor by a plan comes first among the lines of the next rows of the answer
@@ -204,14 +205,14 @@ module _ (give : GiveAnswers) (answer : Answering) where
       (first-asks w tree asked asks)))
 
 -- and what a FETCH of a cursor puts whose plan is the chosen one
-pub first-fetched : GiveAnswers → (answer : Answering) (seed : ℕ) (state : State) (query : syntax.Query) (bound : Query) (name : List ℕ) (asked wanted : ℕ) → IsWrittenQuery query
+pub first-fetched : GiveAnswers → (answer : Answering) (sampling : Sampling) (state : State) (query : syntax.Query) (bound : Query) (name : List ℕ) (asked wanted : ℕ) → IsWrittenQuery query
     → bound_query state.catalogue query ≡ Ok bound
-    → ComeFirst (puts (fetched_from answer state name asked wanted (ByPlan bound (plan_for answer state.catalogue seed bound))).events)
+    → ComeFirst (puts (fetched_from answer state name asked wanted (ByPlan bound (plan_for answer state.catalogue sampling bound))).events)
     (next_lines (answer_of answer state.catalogue bound (all_rows state.catalogue bound)) asked wanted)
-first-fetched give answer seed state query bound name asked wanted written is =
+first-fetched give answer sampling state query bound name asked wanted written is =
     let formed = unfiltered-formed state.catalogue query bound written is in
-    first-fetch give answer state bound (plan_for answer state.catalogue seed bound) name asked wanted (few-terms state.catalogue bound formed)
-    (least-plan state.catalogue bound (cards_for answer state.catalogue seed bound) formed)
+    first-fetch give answer state bound (plan_for answer state.catalogue sampling bound) name asked wanted (few-terms state.catalogue bound formed)
+    (least-plan state.catalogue bound (cards_for answer state.catalogue sampling bound) formed)
 
 -- what the first of some events put comes first where what all of them put does
 pub first-of_part : (events done rest : List Event) (lines : List (List ℕ)) → events ≡ done ++ rest → ComeFirst (puts events) lines → ComeFirst (puts done) lines
@@ -231,7 +232,7 @@ alike-same a b left right same la lb = record {
   states = (let outcome = ap (λ (s : Step CatalogDef). s.outcome) same in let e : left ≡ right = cc in e);
 }
 
-module _ (give : GiveAnswers) (same : AskTheSame) (finds : Finds) (one : OneFile finds) (answer : Answering) (seed : ℕ) where
+module _ (give : GiveAnswers) (same : AskTheSame) (finds : Finds) (one : OneFile finds) (answer : Answering) (sampling : Sampling) where
   -- a query that was answered plainly
   puts-plainly : (catalogue : CatalogDef) (query : Query) (next : CatalogDef) → (evaluation_step catalogue (evaluation_of answer catalogue query (all_rows catalogue query))).outcome ≡ Ok next
       → (puts (evaluation_step catalogue (evaluation_of answer catalogue query (all_rows catalogue query))).events ≡ rank_lines 1 (answer_of answer catalogue query (all_rows catalogue query)))
@@ -251,33 +252,33 @@ module _ (give : GiveAnswers) (same : AskTheSame) (finds : Finds) (one : OneFile
 
   -- a bound query
   alike-bound : (catalogue : CatalogDef) (query : syntax.Query) (bound : Query) (left right : CatalogDef) → IsWrittenQuery query → bound_query catalogue query ≡ Ok bound
-      → (query_step Plainly answer catalogue bound).outcome ≡ Ok left → (query_step (Planned seed) answer catalogue bound).outcome ≡ Ok right
-      → Alike (query_step Plainly answer catalogue bound) (query_step (Planned seed) answer catalogue bound) left right
+      → (query_step Plainly answer catalogue bound).outcome ≡ Ok left → (query_step (Planned sampling) answer catalogue bound).outcome ≡ Ok right
+      → Alike (query_step Plainly answer catalogue bound) (query_step (Planned sampling) answer catalogue bound) left right
   alike-bound catalogue query bound left right written is la lb =
       let formed = unfiltered-formed catalogue query bound written is in
       let plainly = puts-plainly catalogue bound left la in
       let w = world_of catalogue answer bound in
-      let tree = plan_for answer catalogue seed bound in
+      let tree = plan_for answer catalogue sampling bound in
       let planned = puts-planned w tree right lb in
-      let plans = least-plan catalogue bound (cards_for answer catalogue seed bound) formed in
+      let plans = least-plan catalogue bound (cards_for answer catalogue sampling bound) formed in
       record {
-        lines = plainly.0 ∙ sym (ap (rank_lines 1) (give w tree (few-terms catalogue bound formed) plans)) ∙ sym planned.0 ∙ sym (puts-behind seed catalogue bound (planned_step w tree));
+        lines = plainly.0 ∙ sym (ap (rank_lines 1) (give w tree (few-terms catalogue bound formed) plans)) ∙ sym planned.0 ∙ sym (puts-behind sampling catalogue bound (planned_step w tree));
         states = plainly.1 ∙ sym planned.1;
       }
 
   alike-select : (catalogue : CatalogDef) (query : syntax.Query) (left right : CatalogDef) → IsWrittenQuery query
-      → (select_step Plainly answer catalogue query).outcome ≡ Ok left → (select_step (Planned seed) answer catalogue query).outcome ≡ Ok right
-      → Alike (select_step Plainly answer catalogue query) (select_step (Planned seed) answer catalogue query) left right
+      → (select_step Plainly answer catalogue query).outcome ≡ Ok left → (select_step (Planned sampling) answer catalogue query).outcome ≡ Ok right
+      → Alike (select_step Plainly answer catalogue query) (select_step (Planned sampling) answer catalogue query) left right
   alike-select catalogue query left right written la lb = go (bound_query catalogue query) refl la lb where
     go : (bound : Result Query BindFault) → bound_query catalogue query ≡ bound
         → (refused_or (query_step Plainly answer catalogue) (or_bind_fault bound)).outcome ≡ Ok left
-        → (refused_or (query_step (Planned seed) answer catalogue) (or_bind_fault bound)).outcome ≡ Ok right
-        → Alike (refused_or (query_step Plainly answer catalogue) (or_bind_fault bound)) (refused_or (query_step (Planned seed) answer catalogue) (or_bind_fault bound)) left right
+        → (refused_or (query_step (Planned sampling) answer catalogue) (or_bind_fault bound)).outcome ≡ Ok right
+        → Alike (refused_or (query_step Plainly answer catalogue) (or_bind_fault bound)) (refused_or (query_step (Planned sampling) answer catalogue) (or_bind_fault bound)) left right
     go (Ok bound) is la lb = alike-bound catalogue query bound left right written is la lb
     go (Err why) is la lb = absurd cc
 
   alike-step : (catalogue : CatalogDef) (command : Command) (a b : Step CatalogDef) (left right : CatalogDef) → IsWritten command → IsNoExplain command
-      → Does finds answer Plainly catalogue command a → Does finds answer (Planned seed) catalogue command b → a.outcome ≡ Ok left → b.outcome ≡ Ok right
+      → Does finds answer Plainly catalogue command a → Does finds answer (Planned sampling) catalogue command b → a.outcome ≡ Ok left → b.outcome ≡ Ok right
       → Alike a b left right
   alike-step catalogue (CreateTable name columns file) a b left right written of da db la lb =
       alike-same a b left right (Does-one finds one answer Plainly catalogue (CreateTable name columns file) a b da db) la lb
@@ -311,7 +312,7 @@ module _ (give : GiveAnswers) (same : AskTheSame) (finds : Finds) (one : OneFile
 
     -- a statement that concerns no cursor
     beside-alike : (command : Command) (a b : Step State) → IsWritten command → IsNoExplain command → (x y : Step CatalogDef)
-        → Does finds answer Plainly catalogue command x → Does finds answer (Planned seed) catalogue command y
+        → Does finds answer Plainly catalogue command x → Does finds answer (Planned sampling) catalogue command y
         → a ≡ beside_cursors ps x → b ≡ beside_cursors qs y → a.outcome ≡ Ok left → b.outcome ≡ Ok right → AlikeStates a b left right
     beside-alike command a b written of x y dx dy is also la lb =
         let plainly_with : CatalogDef → State = λ catalogue. record { catalogue = catalogue; cursors = ps } in
@@ -334,22 +335,22 @@ module _ (give : GiveAnswers) (same : AskTheSame) (finds : Finds) (one : OneFile
     -- a cursor that was opened both ways
     opened-alike : (name : Name) (query : syntax.Query) (bound : Query) → IsWrittenQuery query → bound_query catalogue query ≡ Ok bound
         → room_for_cursor name.text ps ≡ Ok tt → room_for_cursor name.text qs ≡ Ok tt
-        → (opened_step Plainly answer name.text plain_state bound).outcome ≡ Ok left → (opened_step (Planned seed) answer name.text planned_state bound).outcome ≡ Ok right
-        → AlikeStates (opened_step Plainly answer name.text plain_state bound) (opened_step (Planned seed) answer name.text planned_state bound) left right
+        → (opened_step Plainly answer name.text plain_state bound).outcome ≡ Ok left → (opened_step (Planned sampling) answer name.text planned_state bound).outcome ≡ Ok right
+        → AlikeStates (opened_step Plainly answer name.text plain_state bound) (opened_step (Planned sampling) answer name.text planned_state bound) left right
     opened-alike name query bound written is free also la lb = go (evaluation_of answer catalogue bound (all_rows catalogue bound)).outcome refl la where
       go : (outcome : Result (List Answer) PlainFault) → (evaluation_of answer catalogue bound (all_rows catalogue bound)).outcome ≡ outcome → ready_outcome name.text plain_state outcome ≡ Ok left
-          → AlikeStates (opened_step Plainly answer name.text plain_state bound) (opened_step (Planned seed) answer name.text planned_state bound) left right
+          → AlikeStates (opened_step Plainly answer name.text plain_state bound) (opened_step (Planned sampling) answer name.text planned_state bound) left right
       go (Ok rows) given e =
           let formed = unfiltered-formed catalogue query bound written is in
-          let plans = least-plan catalogue bound (cards_for answer catalogue seed bound) formed in
-          let tree = plan_for answer catalogue seed bound in
+          let plans = least-plan catalogue bound (cards_for answer catalogue sampling bound) formed in
+          let tree = plan_for answer catalogue sampling bound in
           let rows_are : answer_of answer catalogue bound (all_rows catalogue bound) ≡ rows =
           outcome-value plain_faults answer catalogue (answer_of answer catalogue bound (all_rows catalogue bound)) rows (first_of (is_bad answer catalogue) (questions_of catalogue bound (all_rows catalogue bound))) given in
           let p : OpenCursor = record { name = name.text; source = Ready rows; asked = 0 } in
           let q : OpenCursor = record { name = name.text; source = ByPlan bound tree; asked = 0 } in
           let plain_left : with_cursor name.text (Ready rows) plain_state ≡ left = cc in
           let planned_left : with_cursor name.text (ByPlan bound tree) planned_state ≡ right = (let own = lb in cc) in record {
-            lines = puts-inquiry (evaluation_of answer catalogue bound (all_rows catalogue bound)) [] ∙ sym (puts-behind seed catalogue bound (still (Ok (with_cursor name.text (ByPlan bound tree) planned_state))));
+            lines = puts-inquiry (evaluation_of answer catalogue bound (all_rows catalogue bound)) [] ∙ sym (puts-behind sampling catalogue bound (still (Ok (with_cursor name.text (ByPlan bound tree) planned_state))));
             next = catalogue;
             ps = ps ++ p ∷ [];
             qs = qs ++ q ∷ [];
@@ -370,15 +371,15 @@ module _ (give : GiveAnswers) (same : AskTheSame) (finds : Finds) (one : OneFile
       go (Err fault) given e = absurd cc
 
     declare-alike : (name : Name) (query : syntax.Query) → IsWrittenQuery query
-        → (declare_step Plainly answer plain_state name query).outcome ≡ Ok left → (declare_step (Planned seed) answer planned_state name query).outcome ≡ Ok right
-        → AlikeStates (declare_step Plainly answer plain_state name query) (declare_step (Planned seed) answer planned_state name query) left right
+        → (declare_step Plainly answer plain_state name query).outcome ≡ Ok left → (declare_step (Planned sampling) answer planned_state name query).outcome ≡ Ok right
+        → AlikeStates (declare_step Plainly answer plain_state name query) (declare_step (Planned sampling) answer planned_state name query) left right
     declare-alike name query written = go (bound_query catalogue query) refl (room_for_cursor name.text ps) refl (room_for_cursor name.text qs) refl where
       go : (bound : Result Query BindFault) → bound_query catalogue query ≡ bound
           → (first : Result (Unit {0}) Fault) → room_for_cursor name.text ps ≡ first → (second : Result (Unit {0}) Fault) → room_for_cursor name.text qs ≡ second
           → (refused_or (opened_step Plainly answer name.text plain_state) (or_bind_fault bound >>= (λ b. first >>= (λ room. Ok b)))).outcome ≡ Ok left
-          → (refused_or (opened_step (Planned seed) answer name.text planned_state) (or_bind_fault bound >>= (λ b. second >>= (λ room. Ok b)))).outcome ≡ Ok right
+          → (refused_or (opened_step (Planned sampling) answer name.text planned_state) (or_bind_fault bound >>= (λ b. second >>= (λ room. Ok b)))).outcome ≡ Ok right
           → AlikeStates (refused_or (opened_step Plainly answer name.text plain_state) (or_bind_fault bound >>= (λ b. first >>= (λ room. Ok b))))
-          (refused_or (opened_step (Planned seed) answer name.text planned_state) (or_bind_fault bound >>= (λ b. second >>= (λ room. Ok b)))) left right
+          (refused_or (opened_step (Planned sampling) answer name.text planned_state) (or_bind_fault bound >>= (λ b. second >>= (λ room. Ok b)))) left right
       go (Err why) is first fp second fq la lb = absurd cc
       go (Ok bound) is (Err fault) fp second fq la lb = absurd cc
       go (Ok bound) is (Ok room) fp (Err fault) fq la lb = absurd cc
@@ -455,7 +456,7 @@ module _ (give : GiveAnswers) (same : AskTheSame) (finds : Finds) (one : OneFile
 
     -- each statement
     alike-in_session : (command : Command) (a b : Step State) → IsWritten command → IsNoExplain command → DoesInSession finds answer Plainly plain_state command a
-        → DoesInSession finds answer (Planned seed) planned_state command b → a.outcome ≡ Ok left → b.outcome ≡ Ok right → AlikeStates a b left right
+        → DoesInSession finds answer (Planned sampling) planned_state command b → a.outcome ≡ Ok left → b.outcome ≡ Ok right → AlikeStates a b left right
     alike-in_session (CreateTable name columns file) a b written of da db la lb = beside-alike (CreateTable name columns file) a b written of da.0 db.0 da.1 db.1 da.2 db.2 la lb
     alike-in_session (CreatePredicate name params max cost formula) a b written of da db la lb =
         beside-alike (CreatePredicate name params max cost formula) a b written of da.0 db.0 da.1 db.1 da.2 db.2 la lb
@@ -491,20 +492,20 @@ module _ (give : GiveAnswers) (same : AskTheSame) (finds : Finds) (one : OneFile
 
   alike-runs : (catalogue : CatalogDef) (ps qs : List OpenCursor) (commands : List Command) (a b : Run) → AgreeAll answer catalogue ps qs → AreWritten commands → AllByRecursion IsNoExplain commands
       → RunOf (DoesInSession finds answer Plainly) (record { catalogue = catalogue; cursors = ps }) commands a
-      → RunOf (DoesInSession finds answer (Planned seed)) (record { catalogue = catalogue; cursors = qs }) commands b → a.fault ≡ None → b.fault ≡ None → puts a.events ≡ puts b.events
+      → RunOf (DoesInSession finds answer (Planned sampling)) (record { catalogue = catalogue; cursors = qs }) commands b → a.fault ≡ None → b.fault ≡ None → puts a.events ≡ puts b.events
   alike-runs catalogue ps qs [] a b all written of ra rb wa wb = ap (λ (r : Run). puts r.events) (ra ∙ sym rb)
   alike-runs catalogue ps qs (command ∷ rest) a b all written of ra rb wa wb =
       let x = behind-well (λ next more. RunOf (DoesInSession finds answer Plainly) next rest more) ra.0 a ra.2 wa in
-      let y = behind-well (λ next more. RunOf (DoesInSession finds answer (Planned seed)) next rest more) rb.0 b rb.2 wb in
+      let y = behind-well (λ next more. RunOf (DoesInSession finds answer (Planned sampling)) next rest more) rb.0 b rb.2 wb in
       let first = alike-in_session catalogue ps qs all x.left y.left command ra.0 rb.0 written.0 of.0 ra.1 rb.1 x.leaves y.leaves in
       let later = alike-runs first.next first.ps first.qs rest x.more y.more first.agree written.1 of.1
       (subst (λ next. RunOf (DoesInSession finds answer Plainly) next rest x.more) first.left_is x.is_more)
-      (subst (λ next. RunOf (DoesInSession finds answer (Planned seed)) next rest y.more) first.right_is y.is_more) x.well y.well in
+      (subst (λ next. RunOf (DoesInSession finds answer (Planned sampling)) next rest y.more) first.right_is y.is_more) x.well y.well in
       ap (λ (r : Run). puts r.events) x.is ∙ puts-append ra.0.events x.more.events
       ∙ ap (λ lines. lines ++ puts x.more.events) first.lines ∙ ap (λ lines. puts rb.0.events ++ lines) later
       ∙ sym (puts-append rb.0.events y.more.events) ∙ sym (ap (λ (r : Run). puts r.events) y.is)
 
   -- from nothing on
   pub alike-statements : (commands : List Command) (a b : Run) → AreWritten commands → AllByRecursion IsNoExplain commands
-      → StatementsRun finds answer Plainly commands a → StatementsRun finds answer (Planned seed) commands b → a.fault ≡ None → b.fault ≡ None → puts a.events ≡ puts b.events
+      → StatementsRun finds answer Plainly commands a → StatementsRun finds answer (Planned sampling) commands b → a.fault ≡ None → b.fault ≡ None → puts a.events ≡ puts b.events
   alike-statements commands a b written of = alike-runs empty [] [] commands a b tt written of

@@ -1,5 +1,5 @@
 -- What the sample of a query did in a run, and the step behind it.
-use Rattle.std.proofs.Common.{ℕ, ◌≡◌, ◌<◌, List, [], ◌∷◌, length, map, refl, sym, subst, inl, inr}
+use Rattle.std.proofs.Common.{ℕ, ◌≡◌, ◌∙◌, ◌<◌, true, List, [], ◌∷◌, length, map, refl, sym, subst, inl, inr}
 use Rattle.std.specs.Prelude.{Result, Ok, Err, ◌⊎◌}
 use Rattle.std.specs.List.{AllByRecursion, flat_map}
 use Rattle.std.proofs.lemmas.Option.{slice_get_within}
@@ -23,7 +23,9 @@ use Rattle.rs_statement.specs.declared.fault.Fault.{Fault}
 use Rattle.rs_statement.specs.declared.fault.Fault.TheVariants as fault
 use Rattle.rs_statement.specs.Parts.Asks.{NamesSampled}
 use Rattle.rs_statement.specs.Parts.Steps.{Stepped}
-use Rattle.rs_statement.specs.Sampled.{sample_fault, sample_step, sampling}
+use Rattle.rs_statement.specs.declared.sampling.Sampling.{Sampling}
+use Rattle.rs_statement.specs.declared.sampling.Sampling.TheVariants.{ByGuesses, ByScores}
+use Rattle.rs_statement.specs.Sampled.{sample_fault, sample_inquiry, sample_questions, sample_step}
 use Rattle.rs_statement.specs.Steps.{Step, statement_faults}
 use Rattle.rs_events.specs.Sequence.{then_step}
 use Rattle.rs_statement.specs.Statements.{refused_or}
@@ -42,27 +44,27 @@ Stepped-then first rest left state result old middle new before after =
     (SoFar-more (then_step first rest) old old middle first rest left (SoFar-start (then_step first rest) old) before) after
 
 -- a bound query whose sample is taken, before anything else is done with it
-module _ (catalogue : CatalogDef) (seed : ℕ) (rest : Query → Step CatalogDef) (bound : Result Query Fault) (query : Query) (gives : Gives fault.Memory bound (Ok query)) (old new : Environment) where
+module _ (catalogue : CatalogDef) (sampling : Sampling) (rest : Query → Step CatalogDef) (bound : Result Query Fault) (query : Query) (gives : Gives fault.Memory bound (Ok query)) (old new : Environment) where
   abbrev whole : Step CatalogDef
-  whole = refused_or (λ q. then_step (sample_step catalogue seed q) (rest q)) bound
+  whole = refused_or (λ q. then_step (sample_step catalogue sampling q) (rest q)) bound
 
   -- its sample broke off
-  pub Sampled-broken : (why : Fault) → Stepped (λ step. step ≡ sample_step catalogue seed query) catalogue (Err why) old new → Stepped (λ step. step ≡ whole) catalogue (Err why) old new
+  pub Sampled-broken : (why : Fault) → Stepped (λ step. step ≡ sample_step catalogue sampling query) catalogue (Err why) old new → Stepped (λ step. step ≡ whole) catalogue (Err why) old new
   Sampled-broken why sampled =
-      Stepped-bound (λ q. then_step (sample_step catalogue seed q) (rest q)) bound query catalogue (Err why) old new gives
-      (Stepped-broken (sample_step catalogue seed query) (rest query) why catalogue catalogue old new sampled)
+      Stepped-bound (λ q. then_step (sample_step catalogue sampling q) (rest q)) bound query catalogue (Err why) old new gives
+      (Stepped-broken (sample_step catalogue sampling query) (rest query) why catalogue catalogue old new sampled)
 
   -- it was taken, and then the rest was done, or a part of it
-  pub Sampled-then : (result : Result (Unit {0}) Fault) (middle : Environment) → Stepped (λ step. step ≡ sample_step catalogue seed query) catalogue (Ok tt) old middle
+  pub Sampled-then : (result : Result (Unit {0}) Fault) (middle : Environment) → Stepped (λ step. step ≡ sample_step catalogue sampling query) catalogue (Ok tt) old middle
       → Stepped (λ step. step ≡ rest query) catalogue result middle new → Stepped (λ step. step ≡ whole) catalogue result old new
   Sampled-then result middle sampled behind =
-      Stepped-bound (λ q. then_step (sample_step catalogue seed q) (rest q)) bound query catalogue result old new gives
-      (Stepped-then (sample_step catalogue seed query) (rest query) catalogue catalogue result old middle new sampled behind)
+      Stepped-bound (λ q. then_step (sample_step catalogue sampling q) (rest q)) bound query catalogue result old new gives
+      (Stepped-then (sample_step catalogue sampling query) (rest query) catalogue catalogue result old middle new sampled behind)
 
 -- each call of a sample is of the predicate that is told where it fails
-pub probes-sample : (catalogue : CatalogDef) (seed : ℕ) (query : Query) → TellFailedCalls statement_faults (sample_fault catalogue) (sampling catalogue seed query).requests
-probes-sample catalogue seed query =
-    Probes-questions sample_faults (sample_fault catalogue) catalogue (λ number. refl) (questions_of query (all_rows catalogue query) seed)
+pub probes-sample : (catalogue : CatalogDef) (sampling : Sampling) (query : Query) → TellFailedCalls statement_faults (sample_fault catalogue) (sample_inquiry catalogue sampling query).requests
+probes-sample catalogue sampling query =
+    Probes-questions sample_faults (sample_fault catalogue) catalogue (λ number. refl) (sample_questions catalogue sampling query)
 
 module _ (catalogue : CatalogDef) where
   -- the term of a question calls a predicate of the catalogue
@@ -83,10 +85,14 @@ module _ (catalogue : CatalogDef) where
       (named-choices number block term (sampled_choices term.entries samples) (slice_get_within catalogue.predicates term.predicate is.predicate is.has_predicate))
       (named-terms number block samples rest each.1)
 
-  named-sample : (query : Query) (seed : ℕ) → IsQuery catalogue query → AllByRecursion IsNamed (questions_of query (all_rows catalogue query) seed)
-  named-sample (One block limit) seed formed = named-terms 1 block _ block.terms formed.0.terms
-  named-sample (Set op left right limit) seed formed =
+  named-drawn : (query : Query) (seed : ℕ) → IsQuery catalogue query → AllByRecursion IsNamed (questions_of query (all_rows catalogue query) seed)
+  named-drawn (One block limit) seed formed = named-terms 1 block _ block.terms formed.0.terms
+  named-drawn (Set op left right limit) seed formed =
       each-append IsNamed _ _ (named-terms 1 left _ left.terms formed.0.left_block.terms) (named-terms 2 right _ right.terms formed.0.right_block.terms)
+
+  named-sample : (query : Query) (sampling : Sampling) → IsQuery catalogue query → AllByRecursion IsNamed (sample_questions catalogue sampling query)
+  named-sample query (ByScores seed) formed = named-drawn query seed formed
+  named-sample query (ByGuesses seed) formed = tt
 
   abbrev Tells : Request SampleFault → Type 0
   Tells request = NamesSampled catalogue request.failed
@@ -107,7 +113,17 @@ module _ (catalogue : CatalogDef) where
         (each-behind Tells fails.done (fails.last ∷ fails.rest) (subst (AllByRecursion Tells) fails.split (tells-questions qs named))).0
     go (inr stops) = let same : why ≡ Memory = (let e = stops.gives in cc) in subst (NamesSampled catalogue) (sym same) tt
 
+  -- of a scorer of which no call fails, there is a sample unless there was no memory
+  pub steady-asking : {A : Type 0} (qs : List Question) (value : A) (result : Result A SampleFault) (why : SampleFault) (old new : ScorerState) → old.outside.steady ≡ true
+      → Inquires Memory (asking_all catalogue qs value) result old new → result ≡ Err why → why ≡ Memory
+  steady-asking {A} qs value result why old new steady inquires is = go inquires.comes where
+    go : (InquiryEnds (asking_all catalogue qs value) result old new ⊎ InquiryFails (asking_all catalogue qs value) result old new)
+        ⊎ InquiryStops Memory (asking_all catalogue qs value) result old new → why ≡ Memory
+    go (inl (inl ends)) = absurd (let e = ends.gives in cc)
+    go (inl (inr fails)) = absurd (let unsteady = sym steady ∙ fails.faulted.unsteady in cc)
+    go (inr stops) = let e = stops.gives in cc
+
   -- the fault of a sample names a predicate of the catalogue
-  pub names-sample : (query : Query) (seed : ℕ) (why : SampleFault) (old new : ScorerState) → IsQuery catalogue query → Inquires Memory (sampling catalogue seed query) (Err why) old new
+  pub names-sample : (query : Query) (sampling : Sampling) (why : SampleFault) (old new : ScorerState) → IsQuery catalogue query → Inquires Memory (sample_inquiry catalogue sampling query) (Err why) old new
       → NamesSampled catalogue why
-  names-sample query seed why old new formed inquires = names-asking (questions_of query (all_rows catalogue query) seed) done why old new (named-sample query seed formed) inquires
+  names-sample query sampling why old new formed inquires = names-asking (sample_questions catalogue sampling query) done why old new (named-sample query sampling formed) inquires

@@ -15,6 +15,7 @@ use Rattle.rs_syntax.specs.declared.name.Name.{Name}
 use Rattle.rs_syntax.specs.declared.select.Select.{Select}
 use Rattle.rs_syntax.specs.declared.statement.Statement.{Statement}
 use Rattle.rs_syntax.specs.declared.statement.Statement.TheVariants as statement
+use Rattle.rs_statement.specs.declared.sampling.Sampling.{Sampling}
 use Rattle.rs_statement.specs.declared.evaluating.Evaluating.{Evaluating}
 use Rattle.rs_statement.specs.declared.fault.Fault.{Fault}
 use Rattle.rs_bind.specs.Queries.{bound_query, count_of}
@@ -217,18 +218,18 @@ module _ (catalogue : CatalogDef) (entries after : List (List ℕ × CursorRows)
   opened-ready kept is none = sym (opened-last kept (record { name = name; source = source_of kept; asked = 0 }) is (λ i. record { name = name; source = source_of kept; asked = none i }))
 
 -- a DECLARE by a plan whose query is bound, and whose sample was taken
-module _ (answer : Answering) (seed : ℕ) (name : Name) (state : State) (query : syntax.Query) (bound : Query) (left : State) (old new : Environment)
-    (gives : Gives Memory (declared_query state name query) (Ok bound)) (sampled : Stepped (λ step. step ≡ sample_step state.catalogue seed bound) state.catalogue (Ok tt) old new) where
+module _ (answer : Answering) (sampling : Sampling) (name : Name) (state : State) (query : syntax.Query) (bound : Query) (left : State) (old new : Environment)
+    (gives : Gives Memory (declared_query state name query) (Ok bound)) (sampled : Stepped (λ step. step ≡ sample_step state.catalogue sampling bound) state.catalogue (Ok tt) old new) where
   abbrev opened : State
-  opened = with_cursor name.text (ByPlan bound (plan_for answer state.catalogue seed bound)) state
+  opened = with_cursor name.text (ByPlan bound (plan_for answer state.catalogue sampling bound)) state
 
   abbrev Opens : Result (Unit {0}) Fault → Type 0
-  Opens result = Stepped (λ step. step ≡ refused_or (opened_step (Planned seed) answer name.text state) (declared_query state name query)) left result old new
+  Opens result = Stepped (λ step. step ≡ refused_or (opened_step (Planned sampling) answer name.text state) (declared_query state name query)) left result old new
 
   opened-then : (result : Result (Unit {0}) Fault) → Stepped (λ step. step ≡ still (Ok opened)) left result new new → Opens result
   opened-then result made =
-      Stepped-bound (opened_step (Planned seed) answer name.text state) (declared_query state name query) bound left result old new gives
-      (Stepped-then (sample_step state.catalogue seed bound) (still (Ok opened)) state.catalogue left result old new new sampled made)
+      Stepped-bound (opened_step (Planned sampling) answer name.text state) (declared_query state name query) bound left result old new gives
+      (Stepped-then (sample_step state.catalogue sampling bound) (still (Ok opened)) state.catalogue left result old new new sampled made)
 
   -- there was no memory to open its cursor
   pub Opened-cut : Opens (Err Memory)

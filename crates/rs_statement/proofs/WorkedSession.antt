@@ -35,6 +35,7 @@ use Rattle.rs_statement.specs.declared.fault.Fault.TheVariants.{Script, Session}
 use Rattle.rs_statement.specs.declared.fault.SessionFault.TheVariants.{NameTaken, Unknown, Full}
 use Rattle.rs_statement.specs.declared.script_fault.ScriptFault.TheVariants.{Bind}
 use Rattle.rs_statement.specs.Faults.{fault_line}
+use Rattle.rs_statement.specs.declared.sampling.Sampling.TheVariants.{ByScores}
 use Rattle.rs_statement.specs.Planned.{asks_in_all, cards_for, planned_step}
 use Rattle.rs_events.specs.Events.{Put, Score}
 use Rattle.rs_events.specs.Sequence.{silent}
@@ -220,7 +221,7 @@ unfolding csv_on_literals digits escaped fields_text is_blank
 analyzes_in_silence = refl
 
 -- and tells what each node has done by then
-tells_counts : text_of catalogue (both (Some 1)) (cards_for answer catalogue 1 (both (Some 1))) indexed
+tells_counts : text_of catalogue (both (Some 1)) (cards_for answer catalogue (ByScores 1) (both (Some 1))) indexed
     (Some (counts_of_plan (world_of catalogue answer (both (Some 1))) indexed (asks_in_all (world_of catalogue answer (both (Some 1))) indexed)))
     ≡ codes "Rank term 2 est=1 cost=204 asked=1 gave=1 calls=3\n  RankScan t t term 1 est=2 cost=4 asked=3 gave=3 drawn=3\n"
 unfolding digits first_words u32_at pcg32_seed word_bytes taken_from samples_from

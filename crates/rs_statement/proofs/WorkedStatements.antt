@@ -40,6 +40,7 @@ use Rattle.rs_statement.specs.Faults.{only}
 use Rattle.rs_expr.specs.Scoring.{Answering}
 use Rattle.rs_events.specs.Events.{Fetch, Finds, Put, Score, found_in}
 use Rattle.rs_statement.specs.declared.evaluating.Evaluating.TheVariants.{Plainly, Planned}
+use Rattle.rs_statement.specs.declared.sampling.Sampling.TheVariants.{ByGuesses, ByScores}
 use Rattle.rs_statement.specs.Planned.{asks_in_all, cards_for, planned_step}
 use Rattle.rs_statement.specs.Sampled.{sample_step}
 use Rattle.rs_events.specs.Sequence.{silent}
@@ -137,9 +138,13 @@ indexed_of : List ℕ → CatalogDef
 indexed_of bytes = left_by (refused_or (index_step answer (made_of bytes)) (or_bind_fault (index_def_of (made_of bytes) create_index))).outcome
 
 -- a table no larger than its sample is sampled whole; no number ends a sample
-samples_each_row : (bound : Query) → bound_query (made_of (codes "v\n10\n40\n5\n")) select ≡ Ok bound → sample_step (made_of (codes "v\n10\n40\n5\n")) 7 bound ≡ record { events = Score (call (pos 10)) ∷ Score (call (pos 40)) ∷ Score (call (pos 5)) ∷ []; outcome = Ok (made_of (codes "v\n10\n40\n5\n")) }
+samples_each_row : (bound : Query) → bound_query (made_of (codes "v\n10\n40\n5\n")) select ≡ Ok bound → sample_step (made_of (codes "v\n10\n40\n5\n")) (ByScores 7) bound ≡ record { events = Score (call (pos 10)) ∷ Score (call (pos 40)) ∷ Score (call (pos 5)) ∷ []; outcome = Ok (made_of (codes "v\n10\n40\n5\n")) }
 unfolding create_table create_predicate select answer call csv_on_literals digits chars is_utf8 encode_utf8 escaped fields_text is_blank made_of first_words u32_at pcg32_seed word_bytes taken_from samples_from
-samples_each_row bound is = subst (λ query. sample_step (made_of (codes "v\n10\n40\n5\n")) 7 query ≡ record { events = Score (call (pos 10)) ∷ Score (call (pos 40)) ∷ Score (call (pos 5)) ∷ []; outcome = Ok (made_of (codes "v\n10\n40\n5\n")) }) (same_Ok _ bound is) refl
+samples_each_row bound is = subst (λ query. sample_step (made_of (codes "v\n10\n40\n5\n")) (ByScores 7) query ≡ record { events = Score (call (pos 10)) ∷ Score (call (pos 40)) ∷ Score (call (pos 5)) ∷ []; outcome = Ok (made_of (codes "v\n10\n40\n5\n")) }) (same_Ok _ bound is) refl
+
+-- by guesses nobody is called for it
+samples_nothing : (query : Query) → sample_step (made_of (codes "v\n10\n40\n5\n")) (ByGuesses 7) query ≡ record { events = []; outcome = Ok (made_of (codes "v\n10\n40\n5\n")) }
+samples_nothing query = refl
 
 -- by its plan, the second row is asked for before the first one is put, since its score may be greater than 3
 asks_before_a_row : (bound : Query) → bound_query (made_of (codes "v\n3\n10\n")) select ≡ Ok bound → planned_step (world_of (made_of (codes "v\n3\n10\n")) answer bound) (Rank 1 (SeqScan 1)) ≡ record { events = Score (call (pos 3)) ∷ Score (call (pos 10)) ∷ Put (codes "1,10,10\n") ∷ Put (codes "2,3,3\n") ∷ []; outcome = Ok (made_of (codes "v\n3\n10\n")) }
@@ -201,27 +206,27 @@ unfolding create_table create_predicate select answer call csv_on_literals digit
 asks_of_a_join bound is = subst (λ query. planned_step (world_of (made_of (codes "v\n3\n10\n")) answer query) (Rank 1 (JoinOperator Nested (SeqScan 1) (SeqScan 2))) ≡ record { events = Score (call (pos 3)) ∷ Score (call (pos 10)) ∷ Put (codes "1,10,3,10\n") ∷ Score (call (pos 3)) ∷ Score (call (pos 10)) ∷ Put (codes "2,10,10,10\n") ∷ Put (codes "3,3,3,3\n") ∷ Put (codes "4,3,10,3\n") ∷ []; outcome = Ok (made_of (codes "v\n3\n10\n")) }) (same_Ok _ bound is) refl
 
 -- the sample of a term over one of two tables asks for the rows of that table alone
-samples_of_a_join : (bound : Query) → bound_query (made_of (codes "v\n3\n10\n")) select_two ≡ Ok bound → sample_step (made_of (codes "v\n3\n10\n")) 7 bound ≡ record { events = Score (call (pos 3)) ∷ Score (call (pos 10)) ∷ []; outcome = Ok (made_of (codes "v\n3\n10\n")) }
+samples_of_a_join : (bound : Query) → bound_query (made_of (codes "v\n3\n10\n")) select_two ≡ Ok bound → sample_step (made_of (codes "v\n3\n10\n")) (ByScores 7) bound ≡ record { events = Score (call (pos 3)) ∷ Score (call (pos 10)) ∷ []; outcome = Ok (made_of (codes "v\n3\n10\n")) }
 unfolding create_table create_predicate select answer call csv_on_literals digits chars is_utf8 encode_utf8 escaped fields_text is_blank select_two made_of first_words u32_at pcg32_seed word_bytes taken_from samples_from
-samples_of_a_join bound is = subst (λ query. sample_step (made_of (codes "v\n3\n10\n")) 7 query ≡ record { events = Score (call (pos 3)) ∷ Score (call (pos 10)) ∷ []; outcome = Ok (made_of (codes "v\n3\n10\n")) }) (same_Ok _ bound is) refl
+samples_of_a_join bound is = subst (λ query. sample_step (made_of (codes "v\n3\n10\n")) (ByScores 7) query ≡ record { events = Score (call (pos 3)) ∷ Score (call (pos 10)) ∷ []; outcome = Ok (made_of (codes "v\n3\n10\n")) }) (same_Ok _ bound is) refl
 
 -- the text of a plan: both rows are expected, since there are no more than the ten for which a query without LIMIT is planned
-tells_a_plan : (bound : Query) → bound_query (made_of (codes "v\n3\n10\n")) select ≡ Ok bound → text_of (made_of (codes "v\n3\n10\n")) bound (cards_for answer (made_of (codes "v\n3\n10\n")) 7 bound) (Rank 1 (SeqScan 1)) None ≡ codes "Rank term 1 est=2 cost=4\n  SeqScan t t est=2 cost=2\n"
+tells_a_plan : (bound : Query) → bound_query (made_of (codes "v\n3\n10\n")) select ≡ Ok bound → text_of (made_of (codes "v\n3\n10\n")) bound (cards_for answer (made_of (codes "v\n3\n10\n")) (ByScores 7) bound) (Rank 1 (SeqScan 1)) None ≡ codes "Rank term 1 est=2 cost=4\n  SeqScan t t est=2 cost=2\n"
 unfolding create_table create_predicate select answer call csv_on_literals digits chars is_utf8 encode_utf8 escaped fields_text is_blank made_of first_words u32_at pcg32_seed word_bytes taken_from samples_from
-tells_a_plan bound is = subst (λ query. text_of (made_of (codes "v\n3\n10\n")) query (cards_for answer (made_of (codes "v\n3\n10\n")) 7 query) (Rank 1 (SeqScan 1)) None ≡ codes "Rank term 1 est=2 cost=4\n  SeqScan t t est=2 cost=2\n") (same_Ok _ bound is) refl
+tells_a_plan bound is = subst (λ query. text_of (made_of (codes "v\n3\n10\n")) query (cards_for answer (made_of (codes "v\n3\n10\n")) (ByScores 7) query) (Rank 1 (SeqScan 1)) None ≡ codes "Rank term 1 est=2 cost=4\n  SeqScan t t est=2 cost=2\n") (same_Ok _ bound is) refl
 
 -- SELECT DISTINCT v FROM t ORDER BY p(v), which is bound first too
 select_distinct : syntax.Query
 unfolding select
 select_distinct = record select { left = record select.left { distinct = true } }
 
-no_plan_without_a_table : StatementsRun (finds None) answer (Planned 7) (create_predicate ∷ syntax.Ask select_distinct ∷ create_table ∷ [])
+no_plan_without_a_table : StatementsRun (finds None) answer (Planned (ByScores 7)) (create_predicate ∷ syntax.Ask select_distinct ∷ create_table ∷ [])
     (record { events = []; fault = Some (fault.Script (script.Bind why.NoTable 114)) })
 unfolding create_table create_predicate select select_distinct finds answer call csv_on_literals digits chars is_utf8 encode_utf8 escaped fields_text is_blank
 no_plan_without_a_table = (_, (_, refl, refl), (_, (_, (_, refl, refl), refl), refl))
 
 -- EXPLAIN ANALYZE is bound first
-analyzes_nothing : StatementsRun (finds None) answer (Planned 7) (create_predicate ∷ syntax.ExplainAnalyze select ∷ [])
+analyzes_nothing : StatementsRun (finds None) answer (Planned (ByScores 7)) (create_predicate ∷ syntax.ExplainAnalyze select ∷ [])
     (record { events = []; fault = Some (fault.Script (script.Bind why.NoTable 114)) })
 unfolding create_table create_predicate select finds answer call csv_on_literals digits chars is_utf8 encode_utf8 escaped fields_text is_blank
 analyzes_nothing = (_, (_, refl, refl), (_, (_, (_, refl, refl), refl), refl))

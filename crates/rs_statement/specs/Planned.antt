@@ -16,18 +16,22 @@ use Rattle.rs_enum.specs.Least.{least_plan}
 use Rattle.rs_exec.specs.Cursors.{next_answer}
 use Rattle.rs_exec.specs.declared.fault.ExecFault.{ExecFault}
 use Rattle.rs_exec.specs.declared.fault.ExecFault.TheVariants as exec
+use Rattle.rs_statement.specs.declared.sampling.Sampling.{Sampling}
+use Rattle.rs_statement.specs.declared.sampling.Sampling.TheVariants.{ByGuesses, ByScores}
 use Rattle.rs_statement.specs.declared.fault.Fault.{Fault}
 use Rattle.rs_statement.specs.declared.fault.Fault.TheVariants.{BadScore, Memory, Probe}
+use Rattle.rs_statement.specs.Sampled.{formulas}
 use Rattle.rs_statement.specs.Steps.{Step}
 use Rattle.rs_events.specs.Sequence.{inquiry_step, still, then_step}
 
--- what planning knows of a query, by its sample
-abbrev pub cards_for : Answering → CatalogDef → ℕ → Query → List BlockCards
-cards_for answer catalogue seed query = query_cards answer catalogue query (all_rows catalogue query) seed
+-- what planning knows of a query, by its sample: its rows are scored by the scorer of the run, or the same rows by formulas
+abbrev pub cards_for : Answering → CatalogDef → Sampling → Query → List BlockCards
+cards_for answer catalogue (ByScores seed) query = query_cards answer catalogue query (all_rows catalogue query) seed
+cards_for answer catalogue (ByGuesses seed) query = query_cards formulas catalogue query (all_rows catalogue query) seed
 
 -- the plan of a query: the least one by its sample
-abbrev pub plan_for : Answering → CatalogDef → ℕ → Query → PlanTree
-plan_for answer catalogue seed query = least_plan catalogue query (cards_for answer catalogue seed query)
+abbrev pub plan_for : Answering → CatalogDef → Sampling → Query → PlanTree
+plan_for answer catalogue sampling query = least_plan catalogue query (cards_for answer catalogue sampling query)
 
 -- the line of the row that an ask gave, at this rank; at the end of the rows, or where a fault came, there is none
 abbrev pub given_lines : ℕ → Result (Option Answer) ExecFault → List (List ℕ)

@@ -107,8 +107,8 @@ ready_outcome name state (Err fault) = Err (query_fault state.catalogue fault)
 abbrev pub opened_step : Evaluating → Answering → List ℕ → State → Query → Step State
 opened_step Plainly answer name state query =
     inquiry_step (λ rows. []) (ready_outcome name state) (evaluation_of answer state.catalogue query (all_rows state.catalogue query))
-opened_step (Planned seed) answer name state query =
-    then_step (sample_step state.catalogue seed query) (still (Ok (with_cursor name (ByPlan query (plan_for answer state.catalogue seed query)) state)))
+opened_step (Planned sampling) answer name state query =
+    then_step (sample_step state.catalogue sampling query) (still (Ok (with_cursor name (ByPlan query (plan_for answer state.catalogue sampling query)) state)))
 
 abbrev pub declare_step : Evaluating → Answering → State → Name → syntax.Query → Step State
 declare_step evaluating answer state name query =

@@ -35,6 +35,7 @@ use Rattle.rs_enum.specs.Texts.{text_of}
 use Rattle.rs_exec.specs.Asking.{world_of}
 use Rattle.rs_statement.specs.declared.evaluating.Evaluating.{Evaluating}
 use Rattle.rs_statement.specs.declared.evaluating.Evaluating.TheVariants.{Plainly, Planned}
+use Rattle.rs_statement.specs.declared.sampling.Sampling.{Sampling}
 use Rattle.rs_statement.specs.declared.fault.Fault.{Fault}
 use Rattle.rs_statement.specs.declared.fault.Fault.TheVariants.{BadScore, Memory, Probe, Script}
 use Rattle.rs_statement.specs.declared.script_fault.ScriptFault.TheVariants.{Bind, Room}
@@ -117,8 +118,8 @@ evaluation_step catalogue evaluated = inquiry_step answer_lines (query_outcome c
 -- seed, so the queries before it change nothing
 abbrev pub query_step : Evaluating → Answering → CatalogDef → Query → Step CatalogDef
 query_step Plainly answer catalogue query = evaluation_step catalogue (evaluation_of answer catalogue query (all_rows catalogue query))
-query_step (Planned seed) answer catalogue query =
-    then_step (sample_step catalogue seed query) (planned_step (world_of catalogue answer query) (plan_for answer catalogue seed query))
+query_step (Planned sampling) answer catalogue query =
+    then_step (sample_step catalogue sampling query) (planned_step (world_of catalogue answer query) (plan_for answer catalogue sampling query))
 
 -- the query has to be bound, and nothing is told of it
 abbrev pub explain_outcome : CatalogDef → syntax.Query → Result CatalogDef Fault
@@ -134,32 +135,32 @@ select_step evaluating answer catalogue query =
     refused_or (query_step evaluating answer catalogue) (or_bind_fault (bound_query catalogue query))
 
 -- EXPLAIN of a query that is bound: its sample is taken, and then the text of its plan is put, in one put
-abbrev pub explained_step : Answering → CatalogDef → ℕ → Query → Step CatalogDef
-explained_step answer catalogue seed query =
-    then_step (sample_step catalogue seed query)
-    (lines_step (text_of catalogue query (cards_for answer catalogue seed query) (plan_for answer catalogue seed query) None ∷ []) catalogue)
+abbrev pub explained_step : Answering → CatalogDef → Sampling → Query → Step CatalogDef
+explained_step answer catalogue sampling query =
+    then_step (sample_step catalogue sampling query)
+    (lines_step (text_of catalogue query (cards_for answer catalogue sampling query) (plan_for answer catalogue sampling query) None ∷ []) catalogue)
 
 -- EXPLAIN: plainly, no plan is told of
 abbrev pub explain_step : Evaluating → Answering → CatalogDef → syntax.Query → Step CatalogDef
 explain_step Plainly answer catalogue query = still (explain_outcome catalogue query)
-explain_step (Planned seed) answer catalogue query =
-    refused_or (explained_step answer catalogue seed) (or_bind_fault (bound_query catalogue query))
+explain_step (Planned sampling) answer catalogue query =
+    refused_or (explained_step answer catalogue sampling) (or_bind_fault (bound_query catalogue query))
 
 -- EXPLAIN ANALYZE of a query that is bound: its sample is taken, its plan is asked as the query's would be, but no row is put, and then the text of the
 -- plan is put, with what each node has done by then
-abbrev pub analyzed_step : Answering → CatalogDef → ℕ → Query → Step CatalogDef
-analyzed_step answer catalogue seed query =
+abbrev pub analyzed_step : Answering → CatalogDef → Sampling → Query → Step CatalogDef
+analyzed_step answer catalogue sampling query =
     let w = world_of catalogue answer query in
-    let tree = plan_for answer catalogue seed query in
-    then_step (sample_step catalogue seed query)
+    let tree = plan_for answer catalogue sampling query in
+    then_step (sample_step catalogue sampling query)
     (then_step (silent (planned_step w tree))
-    (lines_step (text_of catalogue query (cards_for answer catalogue seed query) tree (Some (counts_of_plan w tree (asks_in_all w tree))) ∷ []) catalogue))
+    (lines_step (text_of catalogue query (cards_for answer catalogue sampling query) tree (Some (counts_of_plan w tree (asks_in_all w tree))) ∷ []) catalogue))
 
 -- EXPLAIN ANALYZE: plainly, no plan is told of
 abbrev pub analyze_step : Evaluating → Answering → CatalogDef → syntax.Query → Step CatalogDef
 analyze_step Plainly answer catalogue query = still (explain_outcome catalogue query)
-analyze_step (Planned seed) answer catalogue query =
-    refused_or (analyzed_step answer catalogue seed) (or_bind_fault (bound_query catalogue query))
+analyze_step (Planned sampling) answer catalogue query =
+    refused_or (analyzed_step answer catalogue sampling) (or_bind_fault (bound_query catalogue query))
 
 -- the fetch of a table's file, where the statement isn't refused before it
 abbrev pub DoesTable : Finds → CatalogDef → Name → List ℕ → Result (List Column) Fault → Step CatalogDef → Type 0

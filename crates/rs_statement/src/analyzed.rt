@@ -26,6 +26,7 @@ ghost use Rattle.rs_events.specs.Environment.{Environment};
 use crate::fault::Fault;
 use crate::planned::ask_fault;
 use crate::planning::{choose_plan, take_sample};
+use crate::sampling::Sampling;
 use rs_bind::bind;
 use rs_catalog::Catalog;
 use rs_enum::{cards_decide_the_text, explain};
@@ -43,7 +44,7 @@ use std::alloc::Global;
 /// what each node has done.
 pub fn analyze_planned<W: Host>(
     alloc: Global,
-    seed: u64,
+    sampling: Sampling,
     select: &Select,
     catalog: &Catalog,
     host: &mut W,
@@ -51,11 +52,11 @@ pub fn analyze_planned<W: Host>(
     requires written { IsWrittenQuery (query_of select.now) }
     requires held { IndexesHold (W.state host.old).scorer.answer catalog.now }
     ensures { Stepped
-        (λ step. step ≡ refused_or (analyzed_step (W.state host.old).scorer.answer catalog.now seed) (or_bind_fault (bound_query catalog.now (query_of select.now))))
+        (λ step. step ≡ refused_or (analyzed_step (W.state host.old).scorer.answer catalog.now sampling) (or_bind_fault (bound_query catalog.now (query_of select.now))))
         catalog.now result (W.state host.old) (W.state host.new) }
 {
     let query = bind(alloc, catalog, select)?;
-    let cards = match take_sample(alloc, seed, catalog, &query, host.scorer()) {
+    let cards = match take_sample(alloc, sampling, catalog, &query, host.scorer()) {
         Ok(cards) => cards,
         Err(fault) => {
             drop(query);

@@ -9,6 +9,7 @@ ghost use Rattle.rs_statement.specs.Statements.{explained_step, or_bind_fault, r
 
 use crate::fault::Fault;
 use crate::planning::{choose_plan, take_sample};
+use crate::sampling::Sampling;
 use rs_bind::bind;
 use rs_catalog::Catalog;
 use rs_enum::{cards_decide_the_text, explain};
@@ -20,18 +21,18 @@ use std::alloc::Global;
 /// Puts the text of the least plan of a query, once its sample was taken. No row is asked for.
 pub fn explain_planned<W: Host>(
     alloc: Global,
-    seed: u64,
+    sampling: Sampling,
     select: &Select,
     catalog: &Catalog,
     host: &mut W,
 ) -> Result<(), Fault>
     requires written { IsWrittenQuery (query_of select.now) }
     ensures { Stepped
-        (λ step. step ≡ refused_or (explained_step (W.state host.old).scorer.answer catalog.now seed) (or_bind_fault (bound_query catalog.now (query_of select.now))))
+        (λ step. step ≡ refused_or (explained_step (W.state host.old).scorer.answer catalog.now sampling) (or_bind_fault (bound_query catalog.now (query_of select.now))))
         catalog.now result (W.state host.old) (W.state host.new) }
 {
     let query = bind(alloc, catalog, select)?;
-    let cards = match take_sample(alloc, seed, catalog, &query, host.scorer()) {
+    let cards = match take_sample(alloc, sampling, catalog, &query, host.scorer()) {
         Ok(cards) => cards,
         Err(fault) => {
             drop(query);

@@ -21,6 +21,7 @@ use crate::fault::Fault;
 use crate::planning::start_planned;
 use crate::put::put_row;
 use crate::query::{bad_score, failed_call};
+use crate::sampling::Sampling;
 use rs_bind::bind;
 use rs_catalog::Catalog;
 use rs_events::Host;
@@ -33,7 +34,7 @@ use std::alloc::Global;
 /// the next one.
 pub fn run_planned<W: Host>(
     alloc: Global,
-    seed: u64,
+    sampling: Sampling,
     select: &Select,
     catalog: &Catalog,
     host: &mut W,
@@ -41,11 +42,11 @@ pub fn run_planned<W: Host>(
     requires written { IsWrittenQuery (query_of select.now) }
     requires held { IndexesHold (W.state host.old).scorer.answer catalog.now }
     ensures { Stepped
-        (λ step. step ≡ refused_or (query_step (Planned seed) (W.state host.old).scorer.answer catalog.now) (or_bind_fault (bound_query catalog.now (query_of select.now))))
+        (λ step. step ≡ refused_or (query_step (Planned sampling) (W.state host.old).scorer.answer catalog.now) (or_bind_fault (bound_query catalog.now (query_of select.now))))
         catalog.now result (W.state host.old) (W.state host.new) }
 {
     let query = bind(alloc, catalog, select)?;
-    let mut cursor = start_planned(alloc, seed, catalog, query, host.scorer())?;
+    let mut cursor = start_planned(alloc, sampling, catalog, query, host.scorer())?;
     let put = put_all(alloc, catalog, &mut cursor, host);
     drop(cursor);
     put

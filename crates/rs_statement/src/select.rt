@@ -33,7 +33,7 @@ pub fn run_select<W: Host>(
 {
     match evaluating {
         Evaluating::Plainly => run_query(alloc, select, catalog, host),
-        Evaluating::Planned(seed) => run_planned(alloc, seed, select, catalog, host),
+        Evaluating::Planned(sampling) => run_planned(alloc, sampling, select, catalog, host),
     }
 }
 
@@ -51,7 +51,7 @@ pub fn run_explain<W: Host>(
 {
     match evaluating {
         Evaluating::Plainly => explain_query(alloc, select, catalog),
-        Evaluating::Planned(seed) => explain_planned(alloc, seed, select, catalog, host),
+        Evaluating::Planned(sampling) => explain_planned(alloc, sampling, select, catalog, host),
     }
 }
 
@@ -70,6 +70,6 @@ pub fn run_analyze<W: Host>(
 {
     match evaluating {
         Evaluating::Plainly => explain_query(alloc, select, catalog),
-        Evaluating::Planned(seed) => analyze_planned(alloc, seed, select, catalog, host),
+        Evaluating::Planned(sampling) => analyze_planned(alloc, sampling, select, catalog, host),
     }
 }

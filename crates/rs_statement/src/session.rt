@@ -26,6 +26,7 @@ use crate::planned::put_next;
 use crate::planning::start_planned;
 use crate::put::put_rows;
 use crate::query::query_fault;
+use crate::sampling::Sampling;
 use indexmap::IndexMap;
 use rs_bind::{bind, bind_count};
 use rs_catalog::Catalog;
@@ -99,8 +100,8 @@ pub fn declare<S: Scorer>(
 {
     match evaluating {
         Evaluating::Plainly => declare_ready(alloc, name, select, catalog, session, scorer),
-        Evaluating::Planned(seed) => {
-            declare_planned(alloc, seed, name, select, catalog, session, scorer)
+        Evaluating::Planned(sampling) => {
+            declare_planned(alloc, sampling, name, select, catalog, session, scorer)
         }
     }
 }
@@ -137,7 +138,7 @@ fn declare_ready<S: Scorer>(
 /// Opens a cursor over the least plan of its query, which its sample decides.
 fn declare_planned<S: Scorer>(
     alloc: Global,
-    seed: u64,
+    sampling: Sampling,
     name: &Name,
     select: &Select,
     catalog: &Catalog,
@@ -148,14 +149,14 @@ fn declare_planned<S: Scorer>(
     requires held { IndexesHold (S.state scorer.old).answer catalog.now }
     requires asked { CanAllBeAsked (S.state scorer.old).answer catalog.now (held_in session.old) }
     ensures opens { (beside : Environment) → Stepped
-        (λ step. step ≡ refused_or (opened_step (Planned seed) (S.state scorer.old).answer name.now.text (state_of catalog.now (held_in session.old)))
+        (λ step. step ≡ refused_or (opened_step (Planned sampling) (S.state scorer.old).answer name.now.text (state_of catalog.now (held_in session.old)))
         (declared_query (state_of catalog.now (held_in session.old)) name.now (query_of select.now)))
         (state_of catalog.now (held_in session.new)) result
         (record beside { scorer = S.state scorer.old }) (record beside { scorer = S.state scorer.new }) }
     ensures asked { IfOk result (λ _. CanAllBeAsked (S.state scorer.old).answer catalog.now (held_in session.new)) }
 {
     let query = declared_query(alloc, name, select, catalog, session)?;
-    let cursor = start_planned(alloc, seed, catalog, query, scorer)?;
+    let cursor = start_planned(alloc, sampling, catalog, query, scorer)?;
     open(session, &name.text, CursorRows::Asked(cursor))?;
     Ok(())
 }

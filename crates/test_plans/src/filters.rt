@@ -8,7 +8,7 @@ ghost use Rattle.test_plans.specs.Pair.{HasPredicate, IsPair};
 use crate::query::{catalogue, formed_pair};
 use rs_catalog::Catalog;
 use rs_filter::{BlockMatch, JoinConditions, passes, project, sides_and_matches_are_combinations};
-use rs_query::{Block, KeptList};
+use rs_query::Block;
 use rs_rank::{Ids, Matcher, RankRow};
 use rs_value::Value;
 use std::alloc::Global;
@@ -40,24 +40,15 @@ fn both_rows(rt: &impl Abort, catalog: &Catalog, block: &Block, left: u32, right
 }
 
 /// Asserts whether the condition holds of a row, and that without it each row passes.
-fn assert_passes(
-    rt: &impl Abort,
-    alloc: Global,
-    catalog: &Catalog,
-    block: &Block,
-    row: &RankRow,
-    want: bool,
-) -> Result<(), Fail>
+fn assert_passes(rt: &impl Abort, catalog: &Catalog, block: &Block, row: &RankRow, want: bool)
     requires pair { IsPair block.now }
     requires block { IsBlock catalog.now block.now }
     requires mask { row.now.ids.mask ≡ 3 }
     requires rows { HasRows catalog.now block.now 3 row.now.ids.rows }
 {
-    let mut cells = Vec::new(alloc);
-    let with_condition = passes(catalog, block, 1, row, &mut cells)?;
-    let without = passes(catalog, block, 0, row, &mut cells)?;
+    let with_condition = passes(catalog, block, 1, row);
+    let without = passes(catalog, block, 0, row);
     assert!(rt; with_condition == want && without);
-    Ok(())
 }
 
 /// Whether there is one value, this number.
@@ -102,7 +93,7 @@ fn assert_row(
     requires block { IsBlock catalog.now block.now }
 {
     let both = both_rows(rt, catalog, block, row.0, row.1);
-    assert_passes(rt, alloc, catalog, block, &both, row.2)?;
+    assert_passes(rt, catalog, block, &both, row.2);
     assert_value(rt, alloc, catalog, block, &both, row.3)
 }
 
@@ -176,8 +167,7 @@ fn assert_pairs(rt: &impl Abort, alloc: Global, catalog: &Catalog) -> Result<(),
 {
     let block = formed_pair(rt, alloc, catalog, false)?;
     let conditions = JoinConditions::new(alloc, catalog, &block, 1, 2)?;
-    let mut cells = KeptList::new(alloc);
-    let mut matcher = BlockMatch::new(catalog, &block, &conditions, &mut cells);
+    let mut matcher = BlockMatch::new(catalog, &block, &conditions);
     assert_matches(rt, &mut matcher)
 }
 

@@ -3,7 +3,7 @@
 
 use rs_expr::{Call, MemScorer};
 use rs_outside::{MemFiles, MemSink};
-use rs_run::{Status, run};
+use rs_run::{Evaluating, Sampling, Status, run, run_file};
 use rs_value::{Memory, Text};
 use std::alloc::Global;
 use std::hash::RandomState;
@@ -38,7 +38,8 @@ const EVERY_FORM: &str = "CLOSE k; CREATE TABLE t (a INT, b TEXT, \"c d\" INTEGE
     EXPLAIN SELECT a FROM t INTERSECT SELECT b FROM t ORDER BY p(a); \
     EXPLAIN ANALYZE SELECT a FROM t EXCEPT SELECT a FROM t ORDER BY p(a)";
 
-/// A run: its words, the pieces of the script, and how it ends where memory lasts.
+/// A run: its words, the pieces of the script, and how it ends where memory lasts. Without words the script is run by plans
+/// that are chosen by guesses.
 #[derive(Clone, Copy)]
 struct Case {
     words: &'static [&'static str],
@@ -49,7 +50,7 @@ struct Case {
     calls: &'static [&'static str],
 }
 
-const CASES: [Case; 8] = [
+const CASES: [Case; 9] = [
     Case {
         words: &["top", "h.csv", "price", "100", "2"],
         script: &[],
@@ -105,6 +106,17 @@ const CASES: [Case; 8] = [
         calls: &[
             "p 10", "p 8", "p 5", "p 2", "p 10", "p 8", "p 5", "p 2", "q 3", "q 9", "q 1", "q 10",
             "q 3", "q 9", "q 1", "q 10", "p 2", "p 8", "p 10", "p 5",
+        ],
+    },
+    Case {
+        words: &[],
+        script: &[BASE, "SELECT x, y FROM t ORDER BY p(x) + q(y) LIMIT 9;"],
+        status: Status::Done,
+        out: "1,17,8,9\n2,13,10,3\n3,12,2,10\n4,6,5,1\n",
+        err: "",
+        // The same plan, and no call of the sample.
+        calls: &[
+            "p 10", "p 8", "p 5", "p 2", "q 3", "q 9", "q 1", "q 10", "p 2", "p 8", "p 10", "p 5",
         ],
     },
     Case {
@@ -197,12 +209,26 @@ fn assert_case(rt: &impl Abort, alloc: Global, hash_keys: RandomState, case: &Ca
 /// Makes a run.
 fn end_of(alloc: Global, hash_keys: RandomState, case: &Case) -> Result<Ended, Memory> {
     let words = words_of(alloc, case.words)?;
+    let script = text(alloc, "s.sql")?;
     let mut files = MemFiles::new(alloc, hash_keys);
     add_files(alloc, case.script, &mut files)?;
     let mut scorer = MemScorer::new(alloc);
     let mut out = MemSink::new(alloc);
     let mut err = MemSink::new(alloc);
-    let status = run(alloc, &words, &mut files, &mut scorer, &mut out, &mut err);
+    let status = if words.is_empty() {
+        let evaluating = Evaluating::Planned(Sampling::ByGuesses(1));
+        run_file(
+            alloc,
+            evaluating,
+            &script,
+            &mut files,
+            &mut scorer,
+            &mut out,
+            &mut err,
+        )
+    } else {
+        run(alloc, &words, &mut files, &mut scorer, &mut out, &mut err)
+    };
     Ok(Ended {
         status,
         out,

@@ -16,6 +16,7 @@ use rs_table::{MOST_ROWS, Table};
 use rs_value::{GREATEST_INT, Kind, List, Memory, Text, Value};
 use std::alloc::Global;
 use std::process::Abort;
+use std::random::RandomSource;
 use std::test::Fail;
 
 const FILE: &[u8] = b"k\n10\n8\n5\n2\n";
@@ -47,6 +48,25 @@ fn is_first(table: &Table, predicate: &Predicate, args: &[BoundArg]) -> bool
     }
 }
 
+/// The index of this name over the first column of a table.
+fn index_of(alloc: Global, name: &str, table: u8, predicate: u8) -> Result<IndexDef, Fail>
+    ensures { IfOk result (λ def. (def.table ≡ table) × (def.predicate ≡ predicate)) }
+{
+    let args = vec![in alloc; BoundArg::Column(1, 0)]?;
+    match text(alloc, name) {
+        Ok(name) => Ok(IndexDef {
+            name,
+            table,
+            predicate,
+            args: List::of(args),
+        }),
+        Err(fail) => {
+            drop(args);
+            Err(fail)
+        }
+    }
+}
+
 /// Adds the index of this name.
 fn add_index(
     rt: &impl Abort,
@@ -57,12 +77,7 @@ fn add_index(
 ) -> Result<(), Fail> {
     let table = number_of(rt, alloc, catalog, What::Table, "left")?;
     let predicate = number_of(rt, alloc, catalog, What::Predicate, "p")?;
-    let def = IndexDef {
-        name: text(alloc, name)?,
-        table,
-        predicate,
-        args: List::of(vec![in alloc; BoundArg::Column(1, 0)]?),
-    };
+    let def = index_of(alloc, name, table, predicate)?;
     assert!(rt; can_be_made(catalog, &def));
     Ok(catalog.add_index(alloc, def, scorer)?)
 }
@@ -109,6 +124,20 @@ fn can_join(catalog: &Catalog, table: u8, rows: &[List<Value>]) -> bool
     }
 }
 
+/// The row of a number.
+fn row_of(alloc: Global, number: i64) -> Result<List<Value>, Fail> {
+    Ok(List::of(vec![in alloc; Value::Int(number)]?))
+}
+
+/// The rows of two numbers.
+fn rows_of(alloc: Global, numbers: (i64, i64)) -> Result<Vec<List<Value>>, Fail> {
+    let mut rows = Vec::new(alloc);
+    for number in [numbers.0, numbers.1] {
+        rows.push(row_of(alloc, number)?)?;
+    }
+    Ok(rows)
+}
+
 /// Puts two rows of these numbers last.
 fn grow(
     rt: &impl Abort,
@@ -118,9 +147,7 @@ fn grow(
     scorer: &mut MemScorer,
 ) -> Result<Result<(), GrowFault>, Fail> {
     let table = number_of(rt, alloc, catalog, What::Table, "left")?;
-    let first = List::of(vec![in alloc; Value::Int(numbers.0)]?);
-    let last = List::of(vec![in alloc; Value::Int(numbers.1)]?);
-    let rows = vec![in alloc; first, last]?;
+    let rows = rows_of(alloc, numbers)?;
     assert!(rt; can_join(catalog, table, &rows));
     Ok(catalog.add_rows(alloc, table, rows, scorer))
 }
@@ -166,61 +193,84 @@ fn assert_last_calls(rt: &impl Abort, scorer: &MemScorer, want: &[i64]) {
     }
 }
 
-#[test]
-fn rows_join_behind_those_of_their_score(rt: HostRuntime) -> Result<(), Fail> {
-    let alloc = rt.alloc();
-    let mut catalog = catalogue(&rt, alloc, &[Kind::Int], 10, (FILE, FILE))?;
-    let mut scorer = MemScorer::new(alloc);
-    add_index(&rt, alloc, &mut catalog, "one", &mut scorer)?;
-    add_index(&rt, alloc, &mut catalog, "two", &mut scorer)?;
-    assert_eq!(&rt;
-        grow(&rt, alloc, &mut catalog, (9, 8), &mut scorer)?,
-        Ok(())
-    );
-    assert_last_calls(&rt, &scorer, &[9, 8, 9, 8]);
+/// Puts two rows of these numbers last, and asserts what comes of it.
+fn assert_grown(
+    rt: &impl Abort,
+    alloc: Global,
+    catalog: &mut Catalog,
+    numbers: (i64, i64),
+    scorer: &mut MemScorer,
+    want: Result<(), GrowFault>,
+) -> Result<(), Fail> {
+    let got = grow(rt, alloc, catalog, numbers, scorer)?;
+    assert_eq!(rt; got, want);
+    Ok(())
+}
+
+/// Asserts that rows join both indexes behind those of their score.
+fn assert_joined(
+    rt: &impl Abort,
+    alloc: Global,
+    catalog: &mut Catalog,
+    scorer: &mut MemScorer,
+) -> Result<(), Fail> {
+    add_index(rt, alloc, catalog, "one", scorer)?;
+    add_index(rt, alloc, catalog, "two", scorer)?;
+    assert_grown(rt, alloc, catalog, (9, 8), scorer, Ok(()))?;
+    assert_last_calls(rt, scorer, &[9, 8, 9, 8]);
+    let all = [(10, 1), (9, 5), (8, 2), (8, 6), (5, 3), (2, 4)];
+    let old = [(10, 1), (8, 2), (5, 3), (2, 4)];
     for name in ["one", "two"] {
-        let all = [(10, 1), (9, 5), (8, 2), (8, 6), (5, 3), (2, 4)];
-        assert_entries(&rt, alloc, &catalog, name, 6, &all)?;
-        assert_entries(
-            &rt,
-            alloc,
-            &catalog,
-            name,
-            4,
-            &[(10, 1), (8, 2), (5, 3), (2, 4)],
-        )?;
+        assert_entries(rt, alloc, catalog, name, 6, &all)?;
+        assert_entries(rt, alloc, catalog, name, 4, &old)?;
     }
     Ok(())
 }
 
-#[test]
-fn no_row_joins_where_one_has_no_score(rt: HostRuntime) -> Result<(), Fail> {
-    let alloc = rt.alloc();
-    let mut catalog = catalogue(&rt, alloc, &[Kind::Int], 10, (FILE, FILE))?;
-    let mut scorer = MemScorer::new(alloc);
-    add_index(&rt, alloc, &mut catalog, "one", &mut scorer)?;
+/// Asserts that no row joins where one of them has no score.
+fn assert_refused(
+    rt: &impl Abort,
+    alloc: Global,
+    catalog: &mut Catalog,
+    scorer: &mut MemScorer,
+) -> Result<(), Fail> {
+    add_index(rt, alloc, catalog, "one", scorer)?;
     let bad = GrowFault::BadScore {
         index: 0,
         row: 6,
         got: 11,
         max: 10,
     };
-    assert_eq!(&rt;
-        grow(&rt, alloc, &mut catalog, (9, 11), &mut scorer)?,
-        Err(bad)
-    );
-    assert_last_calls(&rt, &scorer, &[9, 11]);
+    assert_grown(rt, alloc, catalog, (9, 11), scorer, Err(bad))?;
+    assert_last_calls(rt, scorer, &[9, 11]);
     scorer.fail_at(8)?;
-    assert_eq!(&rt;
-        grow(&rt, alloc, &mut catalog, (7, 3), &mut scorer)?,
-        Err(GrowFault::Probe { index: 0 })
-    );
-    assert_entries(
-        &rt,
-        alloc,
-        &catalog,
-        "one",
-        9,
-        &[(10, 1), (8, 2), (5, 3), (2, 4)],
-    )
+    let failed = GrowFault::Probe { index: 0 };
+    assert_grown(rt, alloc, catalog, (7, 3), scorer, Err(failed))?;
+    let old = [(10, 1), (8, 2), (5, 3), (2, 4)];
+    assert_entries(rt, alloc, catalog, "one", 9, &old)
+}
+
+/// A catalogue with the table "left".
+fn catalogue_of_left(rt: &(impl Abort + RandomSource), alloc: Global) -> Result<Catalog, Fail> {
+    catalogue(rt, alloc, &[Kind::Int], 10, (FILE, FILE))
+}
+
+#[test]
+fn rows_join_behind_those_of_their_score(rt: HostRuntime) -> Result<(), Fail> {
+    let mut catalog = catalogue_of_left(&rt, rt.alloc())?;
+    let mut scorer = MemScorer::new(rt.alloc());
+    let asserted = assert_joined(&rt, rt.alloc(), &mut catalog, &mut scorer);
+    drop(scorer);
+    drop(catalog);
+    asserted
+}
+
+#[test]
+fn no_row_joins_where_one_has_no_score(rt: HostRuntime) -> Result<(), Fail> {
+    let mut catalog = catalogue_of_left(&rt, rt.alloc())?;
+    let mut scorer = MemScorer::new(rt.alloc());
+    let asserted = assert_refused(&rt, rt.alloc(), &mut catalog, &mut scorer);
+    drop(scorer);
+    drop(catalog);
+    asserted
 }

@@ -74,23 +74,15 @@ fn assert_outputs(
 }
 
 /// Asserts whether the condition holds of a row, and that without it each row passes.
-fn assert_holds(
-    rt: &impl Abort,
-    alloc: Global,
-    catalog: &Catalog,
-    block: &Block,
-    ids: &Ids,
-    want: bool,
-) -> Result<(), Fail>
+fn assert_holds(rt: &impl Abort, catalog: &Catalog, block: &Block, ids: &Ids, want: bool)
     requires join { IsJoin block.now }
     requires block { IsBlock catalog.now block.now }
     requires mask { ids.now.mask ≡ 3 }
     requires rows { HasRows catalog.now block.now 3 ids.now.rows }
 {
-    let holds = block.holds(alloc, catalog, 1, ids)?;
-    let passes = block.holds(alloc, catalog, 0, ids)?;
+    let holds = block.holds(catalog, 1, ids);
+    let passes = block.holds(catalog, 0, ids);
     assert!(rt; holds == want && passes);
-    Ok(())
 }
 
 fn assert_row(
@@ -106,7 +98,7 @@ fn assert_row(
 {
     let (left, right, l, r) = *row;
     let ids = both_rows(rt, catalog, block, left, right);
-    assert_holds(rt, alloc, catalog, block, &ids, l == r)?;
+    assert_holds(rt, catalog, block, &ids, l == r);
     assert_args(rt, alloc, catalog, block, &ids, r)?;
     assert_outputs(rt, alloc, catalog, block, &ids, (r, l))
 }

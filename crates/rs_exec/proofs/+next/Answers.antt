@@ -1,6 +1,5 @@
 -- A node that is asked gives the next row of its list, and stands one ask further.
-use Rattle.std.proofs.Common.{◌∙◌, suc, Ok, refl, sym, ap, subst, arith}
-use Rattle.rs_plan.specs.Calls.{questions_of_ask}
+use Rattle.std.proofs.Common.{◌∙◌, Ok, refl, sym, ap, subst, arith}
 use Rattle.rs_value.proofs.ResultFacts.{given-err}
 use Rattle.rs_exec.specs.Asked.{Asked, CanAsk, NodeAfter}
 use Rattle.rs_order.specs.Schedule.{Left, Right}
@@ -10,7 +9,7 @@ use Rattle.rs_exec.specs.Standing.{Stands}
 use Rattle.rs_exec.specs.declared.fault.ExecFault.TheVariants.{Memory}
 use Rattle.rs_exec.specs.declared.node.PlanNode.{PlanNode}
 use Rattle.rs_exec.specs.declared.node.PlanNode.TheVariants as node
-use Rattle.rs_exec.proofs.CycleFacts.{height, index-entry, index-gave, index-view, still-stopped, table-entry, table-gave}
+use Rattle.rs_exec.proofs.CycleFacts.{height, index-entry, index-gave, index-view, table-entry, table-gave}
 use Rattle.rs_exec.proofs.DistinctCycleFacts.{distinct-asked, drops-dropped, drops-given, drops-next, drops-over, drops-puts, drops-start}
 use Rattle.rs_exec.proofs.JoinCycleFacts.{join-asked-node, join-ended, join-fed, join-given, join-next, join-over, join-start, join-takes}
 use Rattle.rs_exec.proofs.RankCycleFacts.{rank-asked, rank-ended, rank-fed, rank-given, rank-next, rank-own_failed, rank-start, rank-takes}
@@ -26,15 +25,6 @@ node::PlanNode::next-next-requires-clause-entry g t c =
     let stands = subst (λ (n : PlanNode). Stands (world_of c.args.context.now.catalog.now answer c.args.context.now.query.now) (number_in n) n) c.in-SeqScan.is c.requires.stands in
     table-entry c.args.context.now.catalog.now answer c.args.context.now.query.now c.in-SeqScan.head can stands
 
-pub node::PlanNode::next-returns-in_err-next-in-SeqScan : goal.node::PlanNode::next-returns-in_err-next-in-SeqScan
-node::PlanNode::next-returns-in_err-next-in-SeqScan g t c =
-    let old = g.S.Scorer.state c.args.scorer.now in
-    let w = world_of c.args.context.now.catalog.now old.answer c.args.context.now.query.now in
-    let self = c.args.self.now in
-    still-stopped w (number_in self) (tree_in self) (asked_in self) (ap (λ (n : PlanNode). questions_of_ask w (number_in n) (tree_in n) (suc (asked_in n))) c.in-SeqScan.is)
-    (NodeAfter w (number_in self) (tree_in self) (asked_in self) (node.SeqScan c.next.new.self)) old refl c.from_residual.result
-    (given-err c.from_residual.result Memory c.from_residual.ensures)
-
 pub node::PlanNode::next-next-requires-in-RankScan-clause-entry : goal.node::PlanNode::next-next-requires-in-RankScan-clause-entry
 node::PlanNode::next-next-requires-in-RankScan-clause-entry g t c =
     let answer = (g.S.Scorer.state c.args.scorer.now).answer in
@@ -49,35 +39,26 @@ node::PlanNode::next-next-requires-in-RankScan-clause-view g t c =
     let stands = subst (λ (n : PlanNode). Stands (world_of c.args.context.now.catalog.now answer c.args.context.now.query.now) (number_in n) n) c.in-RankScan.is c.requires.stands in
     index-view c.args.context.now.catalog.now answer c.args.context.now.query.now c.in-RankScan.head can stands
 
-pub node::PlanNode::next-returns-in_err-next-in-RankScan : goal.node::PlanNode::next-returns-in_err-next-in-RankScan
-node::PlanNode::next-returns-in_err-next-in-RankScan g t c =
-    let old = g.S.Scorer.state c.args.scorer.now in
-    let w = world_of c.args.context.now.catalog.now old.answer c.args.context.now.query.now in
-    let self = c.args.self.now in
-    still-stopped w (number_in self) (tree_in self) (asked_in self) (ap (λ (n : PlanNode). questions_of_ask w (number_in n) (tree_in n) (suc (asked_in n))) c.in-RankScan.is)
-    (NodeAfter w (number_in self) (tree_in self) (asked_in self) (node.RankScan c.next-in-RankScan.new.self)) old refl c.from_residual-in_err-next-in-RankScan.result
-    (given-err c.from_residual-in_err-next-in-RankScan.result Memory c.from_residual-in_err-next-in-RankScan.ensures)
-
-pub node::PlanNode::next-returns-in_ok-next-in-SeqScan : goal.node::PlanNode::next-returns-in_ok-next-in-SeqScan
-node::PlanNode::next-returns-in_ok-next-in-SeqScan g t c =
+pub node::PlanNode::next-returns-in-SeqScan : goal.node::PlanNode::next-returns-in-SeqScan
+node::PlanNode::next-returns-in-SeqScan g t c =
     let old = g.S.Scorer.state c.args.scorer.now in
     let w = world_of c.args.context.now.catalog.now old.answer c.args.context.now.query.now in
     let can = subst (λ (n : PlanNode). CanAsk (world_of c.args.context.now.catalog.now old.answer c.args.context.now.query.now) (number_in n) (tree_in n) (asked_in n)) c.in-SeqScan.is c.requires.can in
     let stands = subst (λ (n : PlanNode). Stands w (number_in n) n) c.in-SeqScan.is c.requires.stands in
-    let row = c.in_ok-next-in-SeqScan.field-0 in
+    let row = c.next.result in
     subst (λ (n : PlanNode). Asked w (number_in n) (tree_in n) (asked_in n) (NodeAfter w (number_in n) (tree_in n) (asked_in n) (node.SeqScan c.next.new.self)) (Ok row) old old) (sym c.in-SeqScan.is)
-    (table-gave c.args.context.now.catalog.now old.answer c.args.context.now.query.now old refl c.in-SeqScan.head c.next.new.self can stands row c.in_ok-next-in-SeqScan.ensures.row c.in_ok-next-in-SeqScan.ensures.after)
+    (table-gave c.args.context.now.catalog.now old.answer c.args.context.now.query.now old refl c.in-SeqScan.head c.next.new.self can stands row c.next.ensures.row c.next.ensures.after)
 
-pub node::PlanNode::next-returns-in_ok-next-in-RankScan : goal.node::PlanNode::next-returns-in_ok-next-in-RankScan
-node::PlanNode::next-returns-in_ok-next-in-RankScan g t c =
+pub node::PlanNode::next-returns-in-RankScan : goal.node::PlanNode::next-returns-in-RankScan
+node::PlanNode::next-returns-in-RankScan g t c =
     let old = g.S.Scorer.state c.args.scorer.now in
     let w = world_of c.args.context.now.catalog.now old.answer c.args.context.now.query.now in
     let can = subst (λ (n : PlanNode). CanAsk (world_of c.args.context.now.catalog.now old.answer c.args.context.now.query.now) (number_in n) (tree_in n) (asked_in n)) c.in-RankScan.is c.requires.can in
     let stands = subst (λ (n : PlanNode). Stands w (number_in n) n) c.in-RankScan.is c.requires.stands in
-    let row = c.in_ok-next-in-RankScan.field-0 in
+    let row = c.next-in-RankScan.result in
     subst (λ (n : PlanNode). Asked w (number_in n) (tree_in n) (asked_in n) (NodeAfter w (number_in n) (tree_in n) (asked_in n) (node.RankScan c.next-in-RankScan.new.self)) (Ok row) old old) (sym c.in-RankScan.is)
     (index-gave c.args.context.now.catalog.now old.answer c.args.context.now.query.now old refl c.in-RankScan.head c.next-in-RankScan.new.self can stands row
-    c.in_ok-next-in-RankScan.ensures.row c.in_ok-next-in-RankScan.ensures.after)
+    c.next-in-RankScan.ensures.row c.next-in-RankScan.ensures.after)
 
 pub node::PlanNode::next-returns-in-Rank : goal.node::PlanNode::next-returns-in-Rank
 node::PlanNode::next-returns-in-Rank g t c =

@@ -10,6 +10,6 @@ returns c =
     let give = c.plans_give_the_answer.ensures.answer in
     let asks = c.plans_ask_the_same_in_larger_catalogues.ensures in
     let same : AskTheSame = record { tables = asks.tables; predicates = asks.predicates; indexes = asks.indexes } in record {
-      files = λ there answer name seed. alike-scripts give same (found_in there) (found-one there) answer seed name;
-      told = λ told answer name seed. alike-scripts give same (finds_in (Some told)) (told-one told) answer seed name;
+      files = λ there answer name sampling. alike-scripts give same (found_in there) (found-one there) answer sampling name;
+      told = λ told answer name sampling. alike-scripts give same (finds_in (Some told)) (told-one told) answer sampling name;
     }

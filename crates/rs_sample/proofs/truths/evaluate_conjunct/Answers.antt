@@ -16,8 +16,8 @@ one_conjunct-only-requires c =
     let most = c.requires.block.most_conjuncts in
     omega arith
 
-pub holds_with-requires-clause-inside : goal.holds_with-requires-clause-inside
-holds_with-requires-clause-inside c =
+pub holds-requires-clause-inside : goal.holds-requires-clause-inside
+holds-requires-clause-inside c =
     let conjuncts = c.args.block.now.conjuncts in
     let conjunct : ConjunctDef = c.index.result.now in
     let within : c.args.place < length conjuncts = c.requires.place in
@@ -26,8 +26,8 @@ holds_with-requires-clause-inside c =
     subst (λ n. AreInside n c.entries-mask.result conjuncts) (sym c.one_conjunct-only.ensures)
     (subst (λ m. AreInside (2 ^ c.args.place) m conjuncts) (sym c.entries-mask.ensures) (one-inside conjuncts c.args.place conjunct at))
 
-pub holds_with-requires-clause-rows : goal.holds_with-requires-clause-rows
-holds_with-requires-clause-rows c =
+pub holds-requires-clause-rows : goal.holds-requires-clause-rows
+holds-requires-clause-rows c =
     let conjuncts = c.args.block.now.conjuncts in
     let conjunct : ConjunctDef = c.index.result.now in
     let within : c.args.place < length conjuncts = c.requires.place in
@@ -46,11 +46,11 @@ loop-rows-preserved c = λ conjunct at.
     let i = c.loop-rows.rows-index in
     let rows = get_or choices i [] in
     let holds = conjunct_holds c.args.catalog.now c.args.block.now rows conjunct in
-    let one : c.in_ok-holds_with.field-0 ≡ holds =
-    c.in_ok-holds_with.ensures
+    let one : c.holds.result ≡ holds =
+    c.holds.ensures
     ∙ ap (λ n. all_hold c.args.catalog.now c.args.block.now n rows c.args.block.now.conjuncts) c.one_conjunct-only.ensures
     ∙ one-holds c.args.catalog.now c.args.block.now rows c.args.block.now.conjuncts c.args.place conjunct at in
-    c.in_ok-push.ensures.items ∙ ap (λ ts. ts ++ c.in_ok-holds_with.field-0 ∷ []) (c.loop-rows.invariant conjunct at)
+    c.in_ok-push.ensures.items ∙ ap (λ ts. ts ++ c.holds.result ∷ []) (c.loop-rows.invariant conjunct at)
     ∙ ap (λ b. map (λ rs. conjunct_holds c.args.catalog.now c.args.block.now rs conjunct) (take i choices) ++ b ∷ []) one
     ∙ sym (map-with (λ rs. conjunct_holds c.args.catalog.now c.args.block.now rs conjunct) choices i rows c.loop-rows-test.true (get_or-other choices i [] c.loop-rows-test.true))
 

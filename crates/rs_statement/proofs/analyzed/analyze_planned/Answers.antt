@@ -28,7 +28,7 @@ pub returns-in_err-query : goal.returns-in_err-query
 returns-in_err-query g c =
     let old = g.W.Host.state c.args.host.now in
     rw (given-err c.from_residual.result (bind_fault c.in_err-query.field-0.0) c.from_residual.ensures) (
-    Stepped-refused (analyzed_step old.scorer.answer c.args.catalog.now c.args.seed)
+    Stepped-refused (analyzed_step old.scorer.answer c.args.catalog.now c.args.sampling)
     (or_bind_fault (bound_query c.args.catalog.now (query_of c.args.select.now))) (bind_fault c.in_err-query.field-0.0) c.args.catalog.now
     old (Gives-unbound _ _ _ c.in_err-query.ensures.gives refl))
 
@@ -37,7 +37,7 @@ returns-in-Err g c =
     let old = g.W.Host.state c.args.host.now in
     let catalogue = c.args.catalog.now in
     rw g.met.W.Host.after_scorer (
-    Sampled-broken catalogue c.args.seed (analyzing old.scorer.answer catalogue c.args.seed)
+    Sampled-broken catalogue c.args.sampling (analyzing old.scorer.answer catalogue c.args.sampling)
     (or_bind_fault (bound_query catalogue (query_of c.args.select.now))) c.in_ok-query.query (Gives-bound _ _ c.in_ok-query.ensures.gives)
     old _ c.in-Err.fault (rw c.scorer.ensures.value at c.in-Err.ensures.calls old))
 
@@ -53,9 +53,9 @@ returns-in-Err-choose_plan g c =
     let catalogue = c.args.catalog.now in
     let query = c.in_ok-query.query in
     let middle = record old { scorer = g.W.Scorer.Scorer.state c.take_sample.new.scorer } in
-    let rest = analyzing old.scorer.answer catalogue c.args.seed in
+    let rest = analyzing old.scorer.answer catalogue c.args.sampling in
     rw g.met.W.Host.after_scorer (
-    Sampled-then catalogue c.args.seed rest (or_bind_fault (bound_query catalogue (query_of c.args.select.now))) query (Gives-bound _ _ c.in_ok-query.ensures.gives)
+    Sampled-then catalogue c.args.sampling rest (or_bind_fault (bound_query catalogue (query_of c.args.select.now))) query (Gives-bound _ _ c.in_ok-query.ensures.gives)
     old middle (Err Memory) middle (rw c.scorer.ensures.value at c.in-Ok.ensures.calls old)
     (Stepped-no_memory (λ step. step ≡ rest query) (rest query) catalogue middle refl))
 
@@ -80,12 +80,12 @@ returns-in_err-text g c =
     let middle = record old { scorer = g.W.Scorer.Scorer.state c.take_sample.new.scorer } in
     let new = record old { scorer = g.W.Scorer.Scorer.state c.asked_text-told.new.scorer } in
     let sampled = rw c.scorer.ensures.value at c.in-Ok.ensures.calls old in
-    let tree = c.in-Ok-choose_plan.ensures.tree (cards_for answer catalogue c.args.seed query) (rw c.scorer.ensures.value at c.in-Ok.ensures.cards) in
+    let tree = c.in-Ok-choose_plan.ensures.tree (cards_for answer catalogue c.args.sampling query) (rw c.scorer.ensures.value at c.in-Ok.ensures.cards) in
     rw (given-err c.from_residual-in_err-text.result fault c.from_residual-in_err-text.ensures, g.met.W.Host.after_scorer, g.met.W.Host.after_scorer) (
-    Sampled-then catalogue c.args.seed (analyzing answer catalogue c.args.seed) (or_bind_fault (bound_query catalogue (query_of c.args.select.now))) query
+    Sampled-then catalogue c.args.sampling (analyzing answer catalogue c.args.sampling) (or_bind_fault (bound_query catalogue (query_of c.args.select.now))) query
     (Gives-bound _ _ c.in_ok-query.ensures.gives) old new (Err fault) middle sampled
-    (Stepped-broken (silent (planned_step (world_of catalogue answer query) (plan_for answer catalogue c.args.seed query))) (analyzed_lines answer catalogue c.args.seed query) fault catalogue catalogue middle new
-    (same-asks catalogue query answer middle.scorer.answer (plan_for answer catalogue c.args.seed query) (tree_of c.in-Ok-choose_plan.plan) (Err fault) middle new
+    (Stepped-broken (silent (planned_step (world_of catalogue answer query) (plan_for answer catalogue c.args.sampling query))) (analyzed_lines answer catalogue c.args.sampling query) fault catalogue catalogue middle new
+    (same-asks catalogue query answer middle.scorer.answer (plan_for answer catalogue c.args.sampling query) (tree_of c.in-Ok-choose_plan.plan) (Err fault) middle new
     sampled.ran.keeps.scorer.answer tree (rw (c.scorer-2.ensures.value, g.met.W.Host.after_scorer) at c.in_err-text.ensures.asks old))))
 
 pub returns : goal.returns
@@ -95,8 +95,8 @@ returns g c =
     let catalogue = c.args.catalog.now in
     let query = c.in_ok-query.query in
     let w = world_of catalogue answer query in
-    let cards = cards_for answer catalogue c.args.seed query in
-    let plan = plan_for answer catalogue c.args.seed query in
+    let cards = cards_for answer catalogue c.args.sampling query in
+    let plan = plan_for answer catalogue c.args.sampling query in
     let own = tree_of c.in-Ok-choose_plan.plan in
     let middle = record old { scorer = g.W.Scorer.Scorer.state c.take_sample.new.scorer } in
     let asked = record old { scorer = g.W.Scorer.Scorer.state c.asked_text-told.new.scorer } in
@@ -114,9 +114,9 @@ returns g c =
     ∙ ap (λ a. text_of catalogue query cards own (Some (counts_of_plan (world_of catalogue a query) own (asks_in_all (world_of catalogue a query) own)))) same
     ∙ ap (λ t. text_of catalogue query cards t (Some (counts_of_plan w t (asks_in_all w t)))) tree in
     rw (g.met.W.Host.after_out, g.met.W.Host.after_scorer, g.met.W.Host.after_scorer) (
-    Sampled-then catalogue c.args.seed (analyzing answer catalogue c.args.seed) (or_bind_fault (bound_query catalogue (query_of c.args.select.now))) query
+    Sampled-then catalogue c.args.sampling (analyzing answer catalogue c.args.sampling) (or_bind_fault (bound_query catalogue (query_of c.args.select.now))) query
     (Gives-bound _ _ c.in_ok-query.ensures.gives) old new c.put_text.result middle sampled
-    (Stepped-then (silent (planned_step w plan)) (analyzed_lines answer catalogue c.args.seed query) catalogue catalogue c.put_text.result middle asked new
+    (Stepped-then (silent (planned_step w plan)) (analyzed_lines answer catalogue c.args.sampling query) catalogue catalogue c.put_text.result middle asked new
     (same-asks catalogue query answer here plan own (Ok tt) middle asked same tree (rw (c.scorer-2.ensures.value, g.met.W.Host.after_scorer) at c.in_ok-text.ensures.asks old))
     (Stepped-lines (text_of catalogue query cards plan (Some (counts_of_plan w plan (asks_in_all w plan))) ∷ []) catalogue c.put_text.result asked new
     (subst (λ t. Ran (lines_run (t ∷ [])) c.put_text.result asked new) text (rw (c.out.ensures.value, g.met.W.Host.after_scorer, g.met.W.Host.after_scorer) at c.put_text.ensures asked)))))

@@ -25,7 +25,7 @@ pub returns-in_err-query : goal.returns-in_err-query
 returns-in_err-query g c =
     let old = g.W.Host.state c.args.host.now in
     rw (given-err c.from_residual.result (bind_fault c.in_err-query.field-0.0) c.from_residual.ensures) (
-    Stepped-refused (explained_step old.scorer.answer c.args.catalog.now c.args.seed)
+    Stepped-refused (explained_step old.scorer.answer c.args.catalog.now c.args.sampling)
     (or_bind_fault (bound_query c.args.catalog.now (query_of c.args.select.now))) (bind_fault c.in_err-query.field-0.0) c.args.catalog.now
     old (Gives-unbound _ _ _ c.in_err-query.ensures.gives refl))
 
@@ -35,7 +35,7 @@ returns-in-Err g c =
     let answer = old.scorer.answer in
     let catalogue = c.args.catalog.now in
     rw g.met.W.Host.after_scorer (
-    Sampled-broken catalogue c.args.seed (λ query. lines_step (text_of catalogue query (cards_for answer catalogue c.args.seed query) (plan_for answer catalogue c.args.seed query) None ∷ []) catalogue)
+    Sampled-broken catalogue c.args.sampling (λ query. lines_step (text_of catalogue query (cards_for answer catalogue c.args.sampling query) (plan_for answer catalogue c.args.sampling query) None ∷ []) catalogue)
     (or_bind_fault (bound_query catalogue (query_of c.args.select.now))) c.in_ok-query.query (Gives-bound _ _ c.in_ok-query.ensures.gives)
     old _ c.in-Err.fault (rw c.scorer.ensures.value at c.in-Err.ensures.calls old))
 
@@ -52,9 +52,9 @@ returns-in-Err-choose_plan g c =
     let catalogue = c.args.catalog.now in
     let query = c.in_ok-query.query in
     let middle = record old { scorer = g.W.Scorer.Scorer.state c.take_sample.new.scorer } in
-    let rest : Query → Step CatalogDef = λ query. lines_step (text_of catalogue query (cards_for answer catalogue c.args.seed query) (plan_for answer catalogue c.args.seed query) None ∷ []) catalogue in
+    let rest : Query → Step CatalogDef = λ query. lines_step (text_of catalogue query (cards_for answer catalogue c.args.sampling query) (plan_for answer catalogue c.args.sampling query) None ∷ []) catalogue in
     rw g.met.W.Host.after_scorer (
-    Sampled-then catalogue c.args.seed rest (or_bind_fault (bound_query catalogue (query_of c.args.select.now))) query (Gives-bound _ _ c.in_ok-query.ensures.gives)
+    Sampled-then catalogue c.args.sampling rest (or_bind_fault (bound_query catalogue (query_of c.args.select.now))) query (Gives-bound _ _ c.in_ok-query.ensures.gives)
     old middle (Err Memory) middle (rw c.scorer.ensures.value at c.in-Ok.ensures.calls old)
     (Stepped-no_memory (λ step. step ≡ rest query) (rest query) catalogue middle refl))
 
@@ -68,9 +68,9 @@ returns-in_err-text g c =
     let catalogue = c.args.catalog.now in
     let query = c.in_ok-query.query in
     let middle = record old { scorer = g.W.Scorer.Scorer.state c.take_sample.new.scorer } in
-    let rest : Query → Step CatalogDef = λ query. lines_step (text_of catalogue query (cards_for answer catalogue c.args.seed query) (plan_for answer catalogue c.args.seed query) None ∷ []) catalogue in
+    let rest : Query → Step CatalogDef = λ query. lines_step (text_of catalogue query (cards_for answer catalogue c.args.sampling query) (plan_for answer catalogue c.args.sampling query) None ∷ []) catalogue in
     rw (given-err c.from_residual-in_err-text.result Memory c.from_residual-in_err-text.ensures, g.met.W.Host.after_scorer) (
-    Sampled-then catalogue c.args.seed rest (or_bind_fault (bound_query catalogue (query_of c.args.select.now))) query (Gives-bound _ _ c.in_ok-query.ensures.gives)
+    Sampled-then catalogue c.args.sampling rest (or_bind_fault (bound_query catalogue (query_of c.args.select.now))) query (Gives-bound _ _ c.in_ok-query.ensures.gives)
     old middle (Err Memory) middle (rw c.scorer.ensures.value at c.in-Ok.ensures.calls old)
     (Stepped-no_memory (λ step. step ≡ rest query) (rest query) catalogue middle refl))
 
@@ -80,8 +80,8 @@ returns g c =
     let answer = old.scorer.answer in
     let catalogue = c.args.catalog.now in
     let query = c.in_ok-query.query in
-    let cards = cards_for answer catalogue c.args.seed query in
-    let plan = plan_for answer catalogue c.args.seed query in
+    let cards = cards_for answer catalogue c.args.sampling query in
+    let plan = plan_for answer catalogue c.args.sampling query in
     let middle = record old { scorer = g.W.Scorer.Scorer.state c.take_sample.new.scorer } in
     let new = record middle { out = g.W.Out.Sink.state c.put_text.new.out } in
     let same = rw c.scorer.ensures.value at c.in-Ok.ensures.cards in
@@ -92,7 +92,7 @@ returns g c =
     same c.in-Ok-choose_plan.ensures.plan
     ∙ ap (λ t. text_of catalogue query cards t None) tree in
     rw (g.met.W.Host.after_out, g.met.W.Host.after_scorer) (
-    Sampled-then catalogue c.args.seed (λ query. lines_step (text_of catalogue query (cards_for answer catalogue c.args.seed query) (plan_for answer catalogue c.args.seed query) None ∷ []) catalogue)
+    Sampled-then catalogue c.args.sampling (λ query. lines_step (text_of catalogue query (cards_for answer catalogue c.args.sampling query) (plan_for answer catalogue c.args.sampling query) None ∷ []) catalogue)
     (or_bind_fault (bound_query catalogue (query_of c.args.select.now))) query (Gives-bound _ _ c.in_ok-query.ensures.gives)
     old new c.put_text.result middle (rw c.scorer.ensures.value at c.in-Ok.ensures.calls old)
     (Stepped-lines (text_of catalogue query cards plan None ∷ []) catalogue c.put_text.result middle new

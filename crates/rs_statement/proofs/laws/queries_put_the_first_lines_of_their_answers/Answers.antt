@@ -4,8 +4,8 @@ use Rattle.rs_statement.proofs.laws.queries_put_the_first_lines_of_their_answers
 pub returns : goal.returns
 returns c =
     let give = c.plans_give_the_answer.ensures.answer in record {
-      queries = λ answer seed catalogue query bound done rest written is split.
-          first-of_part _ done rest _ split (first-query give answer seed catalogue query bound written is);
-      fetches = λ answer seed state query bound name asked wanted done rest written is split.
-          first-of_part _ done rest _ split (first-fetched give answer seed state query bound name asked wanted written is);
+      queries = λ answer sampling catalogue query bound done rest written is split.
+          first-of_part _ done rest _ split (first-query give answer sampling catalogue query bound written is);
+      fetches = λ answer sampling state query bound name asked wanted done rest written is split.
+          first-of_part _ done rest _ split (first-fetched give answer sampling state query bound name asked wanted written is);
     }

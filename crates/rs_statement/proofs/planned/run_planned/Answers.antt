@@ -17,7 +17,7 @@ pub returns-in_err-query : goal.returns-in_err-query
 returns-in_err-query g c =
     let old = g.W.Host.state c.args.host.now in
     rw (given-err c.from_residual.result (bind_fault c.in_err-query.field-0.0) c.from_residual.ensures) (
-    Stepped-refused (query_step (Planned c.args.seed) old.scorer.answer c.args.catalog.now)
+    Stepped-refused (query_step (Planned c.args.sampling) old.scorer.answer c.args.catalog.now)
     (or_bind_fault (bound_query c.args.catalog.now (query_of c.args.select.now))) (bind_fault c.in_err-query.field-0.0) c.args.catalog.now
     old (Gives-unbound _ _ _ c.in_err-query.ensures.gives refl))
 
@@ -30,7 +30,7 @@ returns-in_err-cursor g c =
     let answer = old.scorer.answer in
     let catalogue = c.args.catalog.now in
     rw (given-err c.from_residual-in_err-cursor.result c.in_err-cursor.field-0.0 c.from_residual-in_err-cursor.ensures, g.met.W.Host.after_scorer) (
-    Sampled-broken catalogue c.args.seed (λ query. planned_step (world_of catalogue answer query) (plan_for answer catalogue c.args.seed query))
+    Sampled-broken catalogue c.args.sampling (λ query. planned_step (world_of catalogue answer query) (plan_for answer catalogue c.args.sampling query))
     (or_bind_fault (bound_query catalogue (query_of c.args.select.now))) c.in_ok-query.query (Gives-bound _ _ c.in_ok-query.ensures.gives)
     old _ c.in_err-cursor.field-0.0 (rw c.scorer.ensures.value at c.in_err-cursor.ensures.calls old))
 
@@ -48,8 +48,8 @@ returns g c =
     let query = c.in_ok-query.query in
     let middle = record old { scorer = g.W.Scorer.Scorer.state c.start_planned.new.scorer } in
     let sampled = rw c.scorer.ensures.value at c.in_ok-cursor.ensures.calls old in
-    Sampled-then catalogue c.args.seed (λ query. planned_step (world_of catalogue answer query) (plan_for answer catalogue c.args.seed query))
+    Sampled-then catalogue c.args.sampling (λ query. planned_step (world_of catalogue answer query) (plan_for answer catalogue c.args.sampling query))
     (or_bind_fault (bound_query catalogue (query_of c.args.select.now))) query (Gives-bound _ _ c.in_ok-query.ensures.gives)
     old _ c.put_all-put.result middle sampled
-    (Left-new as_they_are (λ first rest. refl) catalogue answer query (plan_for answer catalogue c.args.seed query) c.in_ok-cursor.cursor c.put_all-put.result middle _
+    (Left-new as_they_are (λ first rest. refl) catalogue answer query (plan_for answer catalogue c.args.sampling query) c.in_ok-cursor.cursor c.put_all-put.result middle _
     (rw c.scorer.ensures.value at c.in_ok-cursor.ensures.starts) sampled.ran.keeps.scorer.answer (rw g.met.W.Host.after_scorer at c.put_all-put.ensures))

@@ -21,7 +21,7 @@ choose_plan-chosen-requires g c = record { formed = c.requires.formed; cards = c
 -- the sample was taken, and then there was no memory for the plan, or for the cursor
 pub returns-in-Err-chosen : goal.returns-in-Err-chosen
 returns-in-Err-chosen g c = record {
-  calls = λ beside. Stepped-cut (λ step. step ≡ sample_step c.args.catalog.now c.args.seed c.args.query) c.args.catalog.now
+  calls = λ beside. Stepped-cut (λ step. step ≡ sample_step c.args.catalog.now c.args.sampling c.args.query) c.args.catalog.now
       (record beside { scorer = g.S.Scorer.state c.args.scorer.now }) (record beside { scorer = g.S.Scorer.state c.take_sample.new.scorer }) (c.in-Ok.ensures.calls beside);
   starts = tt;
   stands = tt;
@@ -32,7 +32,7 @@ start-started-requires g c = record { query = c.requires.formed; plan = c.in-Ok-
 
 pub returns-in_err-started : goal.returns-in_err-started
 returns-in_err-started g c = rw (given-err c.from_residual.result Memory c.from_residual.ensures) (record {
-  calls = λ beside. Stepped-cut (λ step. step ≡ sample_step c.args.catalog.now c.args.seed c.args.query) c.args.catalog.now
+  calls = λ beside. Stepped-cut (λ step. step ≡ sample_step c.args.catalog.now c.args.sampling c.args.query) c.args.catalog.now
       (record beside { scorer = g.S.Scorer.state c.args.scorer.now }) (record beside { scorer = g.S.Scorer.state c.take_sample.new.scorer }) (c.in-Ok.ensures.calls beside);
   starts = tt;
   stands = tt;
@@ -46,7 +46,7 @@ returns g c =
       calls = c.in-Ok.ensures.calls;
       starts = record {
         query_is = started.query_is;
-        plan_is = started.plan_is ∙ c.in-Ok-chosen.ensures.tree (cards_for answer c.args.catalog.now c.args.seed c.args.query) c.in-Ok.ensures.cards;
+        plan_is = started.plan_is ∙ c.in-Ok-chosen.ensures.tree (cards_for answer c.args.catalog.now c.args.sampling c.args.query) c.in-Ok.ensures.cards;
         asks_are = started.unasked;
       };
       stands = c.in_ok-started.ensures.stands answer (held-plan answer c.args.catalog.now c.requires.held (tree_of c.in-Ok-chosen.plan));

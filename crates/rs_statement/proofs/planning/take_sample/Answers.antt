@@ -1,26 +1,32 @@
-use Rattle.std.proofs.Common.{[], refl}
+use Rattle.std.proofs.Common.{◌≡◌, refl}
 use Rattle.std.specs.Prelude.{Ok}
-use Rattle.rs_sample.specs.Sampling.{done}
-use Rattle.rs_sample.specs.declared.fault.SampleFault.TheVariants as sample
-use Rattle.rs_events.specs.Run.{lines_run}
-use Rattle.rs_statement.specs.Sampled.{sample_fault, sample_outcome, sampling}
-use Rattle.rs_events.proofs.InquirySteps.{Stepped-asked, Stepped-unasked}
-use Rattle.rs_events.proofs.RanFacts.{HasDone-none, Ran-all}
-use Rattle.rs_statement.proofs.SampleSteps.{names-sample, probes-sample}
+use Rattle.rs_value.proofs.ResultFacts.{given-err}
+use Rattle.rs_events.proofs.SteppedFacts.{Stepped-no_memory, Stepped-still}
+use Rattle.rs_statement.specs.Sampled.{sample_step}
+use Rattle.rs_statement.specs.declared.fault.Fault.TheVariants.{Memory}
+use Rattle.rs_statement.specs.declared.sampling.Sampling.TheVariants.{ByGuesses}
 use Rattle.rs_statement.proofs.planning.take_sample.Goals as goal
 
-pub sample_fault-requires : goal.sample_fault-requires
-sample_fault-requires g c =
-    names-sample c.args.catalog.now c.args.query.now c.args.seed c.in-Err.why (g.S.Scorer.state c.args.scorer.now) (g.S.Scorer.state c.take.new.scorer) c.requires c.in-Err.ensures.asks
+pub returns-in-ByScores : goal.returns-in-ByScores
+returns-in-ByScores g c = rw c.in-ByScores.is (record {
+  calls = c.take_by_scores.ensures.calls;
+  cards = c.take_by_scores.ensures.cards;
+  own = c.take_by_scores.ensures.own;
+})
 
-pub returns-in-Err-clause-calls : goal.returns-in-Err-clause-calls
-returns-in-Err-clause-calls g c = λ beside.
-    Stepped-unasked (λ taken. []) (sample_outcome c.args.catalog.now) sample.Memory (sampling c.args.catalog.now c.args.seed c.args.query.now) c.args.catalog.now
-    (record beside { scorer = g.S.Scorer.state c.args.scorer.now }) (g.S.Scorer.state c.take.new.scorer) (sample_fault c.args.catalog.now) c.in-Err.why c.sample_fault.result refl refl refl
-    (probes-sample c.args.catalog.now c.args.seed c.args.query.now) c.in-Err.ensures.asks c.sample_fault.ensures
+-- by guesses nothing is done, whether there was memory or not
+pub returns-in_ok-take_by_guesses-in-ByGuesses : goal.returns-in_ok-take_by_guesses-in-ByGuesses
+returns-in_ok-take_by_guesses-in-ByGuesses g c = rw c.in-ByGuesses.is (record {
+  calls = λ beside. Stepped-still (λ step. step ≡ sample_step c.args.catalog.now (ByGuesses c.in-ByGuesses.seed) c.args.query.now) (Ok c.args.catalog.now) c.args.catalog.now (Ok tt)
+      (record beside { scorer = g.S.Scorer.state c.args.scorer.now }) refl refl;
+  cards = c.in_ok-take_by_guesses-in-ByGuesses.ensures.cards (g.S.Scorer.state c.args.scorer.now).answer;
+  own = c.in_ok-take_by_guesses-in-ByGuesses.ensures.own;
+})
 
-pub returns-in-Ok-clause-calls : goal.returns-in-Ok-clause-calls
-returns-in-Ok-clause-calls g c = λ beside.
-    Stepped-asked (λ taken. []) (sample_outcome c.args.catalog.now) sample.Memory (sampling c.args.catalog.now c.args.seed c.args.query.now) c.args.catalog.now
-    (record beside { scorer = g.S.Scorer.state c.args.scorer.now }) (g.S.Scorer.state c.take.new.scorer) done (Ok tt) (record beside { scorer = g.S.Scorer.state c.take.new.scorer }) refl
-    c.in-Ok.ensures.asks (Ran-all (lines_run []) (Ok tt) _ _ (HasDone-none (record beside { scorer = g.S.Scorer.state c.take.new.scorer })) refl)
+pub returns-in_err-take_by_guesses-in-ByGuesses : goal.returns-in_err-take_by_guesses-in-ByGuesses
+returns-in_err-take_by_guesses-in-ByGuesses g c = rw (given-err c.from_residual.result Memory c.from_residual.ensures) (record {
+  calls = λ beside. Stepped-no_memory (λ step. step ≡ sample_step c.args.catalog.now c.args.sampling c.args.query.now) (sample_step c.args.catalog.now c.args.sampling c.args.query.now) c.args.catalog.now
+      (record beside { scorer = g.S.Scorer.state c.args.scorer.now }) refl;
+  cards = tt;
+  own = tt;
+})

@@ -21,7 +21,7 @@ returns-in_err-query g c =
     let answer = (g.S.Scorer.state c.args.scorer.now).answer in
     let state = state_of c.args.catalog.now c.args.session.now.cursors.entries in
     rw (given-err c.from_residual.result c.in_err-query.field-0.0 c.from_residual.ensures) (record {
-      opens = λ beside. Stepped-refused (opened_step (Planned c.args.seed) answer c.args.name.now.text state) (declared_query state c.args.name.now (query_of c.args.select.now)) c.in_err-query.field-0.0
+      opens = λ beside. Stepped-refused (opened_step (Planned c.args.sampling) answer c.args.name.now.text state) (declared_query state c.args.name.now (query_of c.args.select.now)) c.in_err-query.field-0.0
           state (record beside { scorer = g.S.Scorer.state c.args.scorer.now }) c.in_err-query.ensures.gives;
       asked = tt;
     })
@@ -40,9 +40,9 @@ returns-in_err-cursor g c =
       opens = λ beside.
           let old = record beside { scorer = g.S.Scorer.state c.args.scorer.now } in
           let new = record beside { scorer = g.S.Scorer.state c.start_planned.new.scorer } in
-          Stepped-bound (opened_step (Planned c.args.seed) answer name.text state) (declared_query state name (query_of c.args.select.now)) query state (Err c.in_err-cursor.field-0.0) old new
+          Stepped-bound (opened_step (Planned c.args.sampling) answer name.text state) (declared_query state name (query_of c.args.select.now)) query state (Err c.in_err-cursor.field-0.0) old new
           c.in_ok-query.ensures.gives
-          (Stepped-broken (sample_step catalogue c.args.seed query) (still (Ok (with_cursor name.text (ByPlan query (plan_for answer catalogue c.args.seed query)) state))) c.in_err-cursor.field-0.0
+          (Stepped-broken (sample_step catalogue c.args.sampling query) (still (Ok (with_cursor name.text (ByPlan query (plan_for answer catalogue c.args.sampling query)) state))) c.in_err-cursor.field-0.0
           catalogue state old new (c.in_err-cursor.ensures.calls beside));
       asked = tt;
     })
@@ -53,7 +53,7 @@ returns-in_err-open g c =
     let catalogue = c.args.catalog.now in
     let state = state_of catalogue c.args.session.now.cursors.entries in
     rw (given-err c.from_residual-in_err-open.result Memory c.from_residual-in_err-open.ensures) (record {
-      opens = λ beside. Opened-cut answer c.args.seed c.args.name.now state (query_of c.args.select.now) c.in_ok-query.query (state_of catalogue c.open.new.session.cursors.entries)
+      opens = λ beside. Opened-cut answer c.args.sampling c.args.name.now state (query_of c.args.select.now) c.in_ok-query.query (state_of catalogue c.open.new.session.cursors.entries)
           (record beside { scorer = g.S.Scorer.state c.args.scorer.now }) (record beside { scorer = g.S.Scorer.state c.start_planned.new.scorer }) c.in_ok-query.ensures.gives
           (c.in_ok-cursor.ensures.calls beside);
       asked = tt;
@@ -70,10 +70,10 @@ returns g c =
     let cursor = c.in_ok-cursor.cursor in
     let left = c.open.new.session.cursors.entries in
     let opened = c.in_ok-open.ensures.ok in record {
-      opens = λ beside. Opened-planned answer c.args.seed name state (query_of c.args.select.now) query (state_of catalogue left)
+      opens = λ beside. Opened-planned answer c.args.sampling name state (query_of c.args.select.now) query (state_of catalogue left)
           (record beside { scorer = g.S.Scorer.state c.args.scorer.now }) (record beside { scorer = g.S.Scorer.state c.start_planned.new.scorer }) c.in_ok-query.ensures.gives
           (c.in_ok-cursor.ensures.calls beside)
-          (opened-planned catalogue entries left name.text cursor query (plan_for answer catalogue c.args.seed query) opened c.in_ok-cursor.ensures.starts);
+          (opened-planned catalogue entries left name.text cursor query (plan_for answer catalogue c.args.sampling query) opened c.in_ok-cursor.ensures.starts);
       asked = subst (CanAllBeAsked answer catalogue) (sym opened)
           (asked-append answer catalogue entries name.text (held.Asked cursor) c.requires.asked c.in_ok-cursor.ensures.stands);
     }

@@ -89,7 +89,6 @@ join-start : (catalogue : CatalogDef) (block : Block) (number : ℕ) (kind : Joi
       core = new_join_core kind (weights_of block) (side_for left) (side_for right);
       block = number;
       conditions = conditions_of catalogue block (entries left) (entries right);
-      cells = tt;
       tally = no_tally;
     } → IsStart catalogue block number left on_left → IsStart catalogue block number right on_right → IsStart catalogue block number (JoinOperator kind left right) all
 join-start catalogue block number kind left right head on_left on_right (node.Join' top p l q r) over is first second =
@@ -110,6 +109,6 @@ returns-in_ok-on_right-in-HashJoin t c =
     subst (λ (tree : PlanTree). IsStart catalogue block c.args.number tree c.join_over.result) (sym join.is)
     (join-start catalogue block c.args.number join.kind l r c.new-head-in-HashJoin.result c.in_ok-on_left-in-HashJoin.on_left.value c.in_ok-on_right-in-HashJoin.on_right.value
     c.join_over.result c.join_over.ensures
-    (c.new-head-in-HashJoin.ensures ∙ (λ i. record { core = core i; block = c.args.number; conditions = conditions i; cells = tt; tally = no_tally }))
+    (c.new-head-in-HashJoin.ensures ∙ (λ i. record { core = core i; block = c.args.number; conditions = conditions i; tally = no_tally }))
     (subst₂ (λ (plan : Plan) (n : PlanNode). IsStart catalogue block c.args.number (tree_of plan) n) c.deref-in-HashJoin-3.ensures (sym c.in_ok-on_left-in-HashJoin.ensures) c.in_ok-start-in-HashJoin.ensures)
     (subst₂ (λ (plan : Plan) (n : PlanNode). IsStart catalogue block c.args.number (tree_of plan) n) c.deref-in-HashJoin-4.ensures (sym c.in_ok-on_right-in-HashJoin.ensures) c.in_ok-start-in-HashJoin-2.ensures))

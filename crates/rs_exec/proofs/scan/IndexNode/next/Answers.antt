@@ -35,8 +35,8 @@ next-requires-clause-index c = index-there c.args.context.now.catalog.now c.args
 pub next-requires-clause-view : goal.next-requires-clause-view
 next-requires-clause-view c = index-view c.args.context.now.catalog.now c.args.self.now c.loop-row.self c.loop-row.invariant.self_is c.requires.view
 
-pub returns-then-branch-clause-row : goal.returns-then-branch-clause-row
-returns-then-branch-clause-row c =
+pub returns-then-passes-clause-row : goal.returns-then-passes-clause-row
+returns-then-passes-clause-row c =
     let old = c.args.self.now in
     let loop = c.loop-row.self in
     let is = c.loop-row.invariant.self_is in
@@ -44,12 +44,12 @@ returns-then-branch-clause-row c =
     let there = index-place c.args.context.now.catalog.now old loop is (Some row) c.in-Some.ensures.row in
     let of_entry = index-row c.args.context.now.catalog.now old loop is c.args.context.now.query.now row c.requires.entry c.requires.same_entry c.requires.same_block c.in-Some.ensures.number there in
     let test = entry-passes c.args.context.now.catalog.now c.args.context.now.query.now c.block-block.result.now old.block old.entry old.scan.rows old.conjuncts loop.conjuncts row of_entry
-    c.block-block.ensures c.requires.entry (ap (λ (node : IndexNode). node.conjuncts) is) c.in_ok-passes.field-0 c.in_ok-passes.ensures in
-    let one = passed (passes c.args.context.now.catalog.now c.args.context.now.query.now) (rows_of_index c.args.context.now.catalog.now old.scan) old.scan.drawn loop.scan.drawn row there (sym test ∙ c.if-branch.true) c.loop-row.invariant.none in
+    c.block-block.ensures c.requires.entry (ap (λ (node : IndexNode). node.conjuncts) is) c.passes.result c.passes.ensures in
+    let one = passed (passes c.args.context.now.catalog.now c.args.context.now.query.now) (rows_of_index c.args.context.now.catalog.now old.scan) old.scan.drawn loop.scan.drawn row there (sym test ∙ c.if-passes.true) c.loop-row.invariant.none in
     one.next
 
-pub returns-then-branch-clause-after : goal.returns-then-branch-clause-after
-returns-then-branch-clause-after c =
+pub returns-then-passes-clause-after : goal.returns-then-passes-clause-after
+returns-then-passes-clause-after c =
     let old = c.args.self.now in
     let loop = c.loop-row.self in
     let is = c.loop-row.invariant.self_is in
@@ -57,8 +57,8 @@ returns-then-branch-clause-after c =
     let there = index-place c.args.context.now.catalog.now old loop is (Some row) c.in-Some.ensures.row in
     let of_entry = index-row c.args.context.now.catalog.now old loop is c.args.context.now.query.now row c.requires.entry c.requires.same_entry c.requires.same_block c.in-Some.ensures.number there in
     let test = entry-passes c.args.context.now.catalog.now c.args.context.now.query.now c.block-block.result.now old.block old.entry old.scan.rows old.conjuncts loop.conjuncts row of_entry
-    c.block-block.ensures c.requires.entry (ap (λ (node : IndexNode). node.conjuncts) is) c.in_ok-passes.field-0 c.in_ok-passes.ensures in
-    let one = passed (passes c.args.context.now.catalog.now c.args.context.now.query.now) (rows_of_index c.args.context.now.catalog.now old.scan) old.scan.drawn loop.scan.drawn row there (sym test ∙ c.if-branch.true) c.loop-row.invariant.none in
+    c.block-block.ensures c.requires.entry (ap (λ (node : IndexNode). node.conjuncts) is) c.passes.result c.passes.ensures in
+    let one = passed (passes c.args.context.now.catalog.now c.args.context.now.query.now) (rows_of_index c.args.context.now.catalog.now old.scan) old.scan.drawn loop.scan.drawn row there (sym test ∙ c.if-passes.true) c.loop-row.invariant.none in
     let more : loop.scan.drawn ≡ loop.scan.rows → ⊥ = λ end. none-some row (sym (c.next.ensures.end.1 end) ∙ c.in-Some.is) in
     let drew = index-drew c.args.context.now.catalog.now old loop is c.next.new.self c.next.ensures.most more c.next.ensures.after in
     index-gave c.args.context.now.catalog.now old loop is c.next.new.self c.give.new.self row (loop.scan.drawn + 1) _ drew c.give.ensures one.drawn
@@ -82,12 +82,12 @@ loop-row-preserved c =
     let there = index-place c.args.context.now.catalog.now old loop is (Some row) c.in-Some.ensures.row in
     let of_entry = index-row c.args.context.now.catalog.now old loop is c.args.context.now.query.now row c.requires.entry c.requires.same_entry c.requires.same_block c.in-Some.ensures.number there in
     let test = entry-passes c.args.context.now.catalog.now c.args.context.now.query.now c.block-block.result.now old.block old.entry old.scan.rows old.conjuncts loop.conjuncts row of_entry
-    c.block-block.ensures c.requires.entry (ap (λ (node : IndexNode). node.conjuncts) is) c.in_ok-passes.field-0 c.in_ok-passes.ensures in
+    c.block-block.ensures c.requires.entry (ap (λ (node : IndexNode). node.conjuncts) is) c.passes.result c.passes.ensures in
     let more : loop.scan.drawn ≡ loop.scan.rows → ⊥ = λ end. none-some row (sym (c.next.ensures.end.1 end) ∙ c.in-Some.is) in
     let drew = index-drew c.args.context.now.catalog.now old loop is c.next.new.self c.next.ensures.most more c.next.ensures.after in
     record {
       none = subst (λ n. NonePassed (passes c.args.context.now.catalog.now c.args.context.now.query.now) (rows_of_index c.args.context.now.catalog.now old.scan) old.scan.drawn n) (sym (ap (λ (s : IndexScan). s.drawn) drew))
-          (none-more (passes c.args.context.now.catalog.now c.args.context.now.query.now) (rows_of_index c.args.context.now.catalog.now old.scan) old.scan.drawn loop.scan.drawn row there (sym test ∙ c.if-branch.false) c.loop-row.invariant.none);
+          (none-more (passes c.args.context.now.catalog.now c.args.context.now.query.now) (rows_of_index c.args.context.now.catalog.now old.scan) old.scan.drawn loop.scan.drawn row there (sym test ∙ c.if-passes.false) c.loop-row.invariant.none);
       self_is = index-goes_on c.args.context.now.catalog.now old loop is c.next.new.self (loop.scan.drawn + 1) drew;
     }
 

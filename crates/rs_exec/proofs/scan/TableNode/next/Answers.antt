@@ -28,8 +28,8 @@ passes-requires-clause-rows c =
     entry-rows c.args.context.now.catalog.now c.args.context.now.query.now c.block-block.result.now old.block old.entry old.scan.rows old.conjuncts loop.conjuncts row of_entry
     c.block-block.ensures c.requires.entry (ap (λ (node : TableNode). node.conjuncts) is)
 
-pub returns-then-branch-clause-row : goal.returns-then-branch-clause-row
-returns-then-branch-clause-row c =
+pub returns-then-passes-clause-row : goal.returns-then-passes-clause-row
+returns-then-passes-clause-row c =
     let old = c.args.self.now in
     let loop = c.loop-row.self in
     let is = c.loop-row.invariant.self_is in
@@ -37,12 +37,12 @@ returns-then-branch-clause-row c =
     let there = table-place old loop is (Some row) c.in-Some.ensures.row in
     let of_entry = table-row old loop is row c.requires.same_entry c.requires.same_block there in
     let test = entry-passes c.args.context.now.catalog.now c.args.context.now.query.now c.block-block.result.now old.block old.entry old.scan.rows old.conjuncts loop.conjuncts row of_entry
-    c.block-block.ensures c.requires.entry (ap (λ (node : TableNode). node.conjuncts) is) c.in_ok-passes.field-0 c.in_ok-passes.ensures in
-    let one = passed (passes c.args.context.now.catalog.now c.args.context.now.query.now) (rows_of_table old.scan) old.scan.drawn loop.scan.drawn row there (sym test ∙ c.if-branch.true) c.loop-row.invariant.none in
+    c.block-block.ensures c.requires.entry (ap (λ (node : TableNode). node.conjuncts) is) c.passes.result c.passes.ensures in
+    let one = passed (passes c.args.context.now.catalog.now c.args.context.now.query.now) (rows_of_table old.scan) old.scan.drawn loop.scan.drawn row there (sym test ∙ c.if-passes.true) c.loop-row.invariant.none in
     one.next
 
-pub returns-then-branch-clause-after : goal.returns-then-branch-clause-after
-returns-then-branch-clause-after c =
+pub returns-then-passes-clause-after : goal.returns-then-passes-clause-after
+returns-then-passes-clause-after c =
     let old = c.args.self.now in
     let loop = c.loop-row.self in
     let is = c.loop-row.invariant.self_is in
@@ -50,8 +50,8 @@ returns-then-branch-clause-after c =
     let there = table-place old loop is (Some row) c.in-Some.ensures.row in
     let of_entry = table-row old loop is row c.requires.same_entry c.requires.same_block there in
     let test = entry-passes c.args.context.now.catalog.now c.args.context.now.query.now c.block-block.result.now old.block old.entry old.scan.rows old.conjuncts loop.conjuncts row of_entry
-    c.block-block.ensures c.requires.entry (ap (λ (node : TableNode). node.conjuncts) is) c.in_ok-passes.field-0 c.in_ok-passes.ensures in
-    let one = passed (passes c.args.context.now.catalog.now c.args.context.now.query.now) (rows_of_table old.scan) old.scan.drawn loop.scan.drawn row there (sym test ∙ c.if-branch.true) c.loop-row.invariant.none in
+    c.block-block.ensures c.requires.entry (ap (λ (node : TableNode). node.conjuncts) is) c.passes.result c.passes.ensures in
+    let one = passed (passes c.args.context.now.catalog.now c.args.context.now.query.now) (rows_of_table old.scan) old.scan.drawn loop.scan.drawn row there (sym test ∙ c.if-passes.true) c.loop-row.invariant.none in
     let drew = table-drew old loop is c.next.new.self row there c.next.ensures.after in
     table-gave old loop is c.next.new.self c.give.new.self row (loop.scan.drawn + 1) _ drew c.give.ensures one.drawn
 
@@ -74,11 +74,11 @@ loop-row-preserved c =
     let there = table-place old loop is (Some row) c.in-Some.ensures.row in
     let of_entry = table-row old loop is row c.requires.same_entry c.requires.same_block there in
     let test = entry-passes c.args.context.now.catalog.now c.args.context.now.query.now c.block-block.result.now old.block old.entry old.scan.rows old.conjuncts loop.conjuncts row of_entry
-    c.block-block.ensures c.requires.entry (ap (λ (node : TableNode). node.conjuncts) is) c.in_ok-passes.field-0 c.in_ok-passes.ensures in
+    c.block-block.ensures c.requires.entry (ap (λ (node : TableNode). node.conjuncts) is) c.passes.result c.passes.ensures in
     let drew = table-drew old loop is c.next.new.self row there c.next.ensures.after in
     record {
       none = subst (λ n. NonePassed (passes c.args.context.now.catalog.now c.args.context.now.query.now) (rows_of_table old.scan) old.scan.drawn n) (sym (ap (λ (s : TableScan). s.drawn) drew))
-          (none-more (passes c.args.context.now.catalog.now c.args.context.now.query.now) (rows_of_table old.scan) old.scan.drawn loop.scan.drawn row there (sym test ∙ c.if-branch.false) c.loop-row.invariant.none);
+          (none-more (passes c.args.context.now.catalog.now c.args.context.now.query.now) (rows_of_table old.scan) old.scan.drawn loop.scan.drawn row there (sym test ∙ c.if-passes.false) c.loop-row.invariant.none);
       self_is = table-goes_on old loop is c.next.new.self (loop.scan.drawn + 1) drew;
     }
 

@@ -1,6 +1,5 @@
 -- A row that isn't one of its side matches none; of rows of both sides the conjuncts across them decide.
 use Rattle.std.proofs.Common.{◌≡◌, ◌∙◌, true, false, bit_or, sym, ap, subst, subst₂}
-use Rattle.std.specs.Prelude.{IfOk}
 use Rattle.rs_rank.specs.Ids.{merge_rows}
 use Rattle.rs_rank.specs.declared.ids.Ids.{Ids}
 use Rattle.rs_query.specs.Choices.{IsChoice}
@@ -41,15 +40,15 @@ returns-then-right-conditions-clause-answer c =
           (ap (λ s. is_choice m.conditions.now.right s r.ids.rows) (sym (ap (λ (k : JoinConditions). k.sizes) c.self.invariant.1)) ∙ sym w.is_choice-else-right-conditions.ensures ∙ w.if-not-is_choice-2.true)
     ])
 
-pub holds_with-requires-clause-inside : goal.holds_with-requires-clause-inside
-holds_with-requires-clause-inside c =
+pub holds-requires-clause-inside : goal.holds-requires-clause-inside
+holds-requires-clause-inside c =
     let m = c.self.inside in
     let mask : c.merge-ids.result.mask ≡ bit_or m.conditions.now.left m.conditions.now.right =
     ap (λ (i : Ids). i.mask) c.merge-ids.ensures.value ∙ (λ at. bit_or (c.if-left-conditions.false at) (c.if-right-conditions.false at)) in
     subst₂ (λ n e. AreInside n e m.block.now.conjuncts) (sym (ap (λ (k : JoinConditions). k.across) c.self.invariant.1)) (sym mask) (AreInside-across m.conditions.now.left m.conditions.now.right m.block.now.conjuncts)
 
-pub holds_with-requires-clause-rows : goal.holds_with-requires-clause-rows
-holds_with-requires-clause-rows c =
+pub holds-requires-clause-rows : goal.holds-requires-clause-rows
+holds-requires-clause-rows c =
     let m = c.self.inside in
     let l = c.args.left.now in
     let r = c.args.right.now in
@@ -81,5 +80,4 @@ returns-clause-answer c =
     (λ at. all_hold m.catalog.now m.block.now ((ap (λ (k : JoinConditions). k.across) c.self.invariant.1) at) (rows at) conjuncts)
     ∙ all_hold-across m.conditions.now.left m.conditions.now.right m.catalog.now m.block.now (merge_rows l.ids.rows r.ids.rows) conjuncts
     ∙ sym (both-sides m.catalog.now m.block.now m.conditions.now.left m.conditions.now.right l r c.if-left-conditions.false left c.if-right-conditions.false right) in
-    subst (λ (s : Matching). IfOk c.holds_with.result (λ a. a ≡ joins s.catalogue s.block s.left s.right l r)) c.self.view_is
-    (subst (λ b. IfOk c.holds_with.result (λ a. a ≡ b)) answer c.holds_with.ensures)
+    subst (λ (s : Matching). c.holds.result ≡ joins s.catalogue s.block s.left s.right l r) c.self.view_is (c.holds.ensures ∙ answer)

@@ -10,7 +10,7 @@ use Rattle.rs_query.proofs.GoFacts.{GoesOn-fails, GoesOn-whole, IsBegun-longer, 
 use Rattle.rs_query.proofs.StepsFacts.{AreSteps-inside}
 use Rattle.rs_query.proofs.WalkFacts.{HasRows-longer, conditions-inside, no-step, tie-row}
 use Rattle.rs_query.proofs.block.Block.+extend.Goals as goal
-use Rattle.rs_query.proofs.block.Block.+extend.Goals.{then-branch+in_ok-extend, else-branch}
+use Rattle.rs_query.proofs.block.Block.+extend.Goals.{then-holds+in_ok-extend, else-holds}
 
 pub returns-in_default : goal.returns-in_default
 returns-in_default t c =
@@ -35,15 +35,15 @@ loop-row-init t c =
       fits = λ some. next.there some;
     }
 
-pub holds_with-requires-clause-inside : goal.holds_with-requires-clause-inside
-holds_with-requires-clause-inside t c =
+pub holds-requires-clause-inside : goal.holds-requires-clause-inside
+holds-requires-clause-inside t c =
     let are = subst (AreSteps c.args.catalog.now c.args.self.now c.args.mask (all_entries c.args.self.now)) c.in-Some.ensures.cases.0 c.requires.steps in
     let more : c.union-more.result ≡ bit_or c.args.mask (mask_of c.in-Some.step.now.entry) = c.union-more.ensures ∙ ap (bit_or c.args.mask) c.mask_of.ensures in
     subst (λ m. AreInside c.in-Some.step.now.conditions m c.args.self.now.conjuncts) (sym more)
     (conditions-inside c.args.catalog.now c.args.self.now c.args.mask c.in-Some.step.now are.0)
 
-pub holds_with-requires-clause-rows : goal.holds_with-requires-clause-rows
-holds_with-requires-clause-rows t c =
+pub holds-requires-clause-rows : goal.holds-requires-clause-rows
+holds-requires-clause-rows t c =
     let are = subst (AreSteps c.args.catalog.now c.args.self.now c.args.mask (all_entries c.args.self.now)) c.in-Some.ensures.cases.0 c.requires.steps in
     let more : c.union-more.result ≡ bit_or c.args.mask (mask_of c.in-Some.step.now.entry) = c.union-more.ensures ∙ ap (bit_or c.args.mask) c.mask_of.ensures in
     let some : 1 ≤ c.loop-row.row = omega arith in
@@ -62,7 +62,7 @@ extend-requires t c =
     let some : 1 ≤ c.loop-row.row = omega arith in
     let fits = c.loop-row.invariant.fits some in
     let shorter : length c.in-Some.rest.now < length c.args.steps.now = omega (arith, c.in-Some.ensures.cases.1) in
-    let holds = subst (λ z. all_hold catalogue block step.conditions z block.conjuncts ≡ true) c.with_row-longer.ensures (sym c.in_ok-holds_with.ensures ∙ c.if-branch.true) in (
+    let holds = subst (λ z. all_hold catalogue block step.conditions z block.conjuncts ≡ true) c.with_row-longer.ensures (sym c.holds.ensures ∙ c.if-holds.true) in (
       search (rules, shorter),
       (
         c.requires.block,
@@ -89,19 +89,19 @@ loop-row-preserved t c =
     let some : 1 ≤ c.loop-row.row = omega arith in
     let fits = c.loop-row.invariant.fits some in
     let next = c.next-row.ensures catalogue block mask c.args.rows are.0 fits.2 in
-    let part : Adds (GoesOn catalogue block rest now longer) c.loop-row.found.items c.if-branch.found.items = elim c.if-branch.branch [
-      | then-branch+in_ok-extend w ↦
+    let part : Adds (GoesOn catalogue block rest now longer) c.loop-row.found.items c.if-holds.found.items = elim c.if-holds.branch [
+      | then-holds+in_ok-extend w ↦
           subst (λ (v : Vec (List ℕ) Global). Adds (GoesOn catalogue block rest now longer) c.loop-row.found.items v.items) (sym w.found-is)
           (subst (λ m. Adds (GoesOn catalogue block rest m longer) c.loop-row.found.items w.extend.new.found.items) more
           (subst (λ z. Adds (GoesOn catalogue block rest c.union-more.result z) c.loop-row.found.items w.extend.new.found.items) c.with_row-longer.ensures w.in_ok-extend.ensures))
-      | else-branch w ↦
+      | else-holds w ↦
           subst (λ (v : Vec (List ℕ) Global). Adds (GoesOn catalogue block rest now longer) c.loop-row.found.items v.items) (sym w.found-is)
           (Adds-none (GoesOn catalogue block rest now longer) c.loop-row.found.items
           (GoesOn-fails catalogue block c.requires.block mask step c.args.rows are.0 rest c.loop-row.row (AreSteps-inside catalogue block now (all_entries block) rest are.1)
-          (subst (λ z. all_hold catalogue block step.conditions z block.conjuncts ≡ false) c.with_row-longer.ensures (sym c.in_ok-holds_with.ensures ∙ w.if-branch.false))))
+          (subst (λ z. all_hold catalogue block step.conditions z block.conjuncts ≡ false) c.with_row-longer.ensures (sym c.holds.ensures ∙ w.if-holds.false))))
     ] in
     record {
-      found = passed-more catalogue block c.requires.block mask step c.args.rows are.0 rest c.loop-row.row c.next-row.result c.args.found.now.items c.loop-row.found.items c.if-branch.found.items
+      found = passed-more catalogue block c.requires.block mask step c.args.rows are.0 rest c.loop-row.row c.next-row.result c.args.found.now.items c.loop-row.found.items c.if-holds.found.items
           c.requires.begun fits.0 fits.1 next c.loop-row.invariant.found part;
       fits = λ there. let found = next.there there in ((let above = fits.0 in let behind = found.0 in omega arith), found.1, found.2);
     }

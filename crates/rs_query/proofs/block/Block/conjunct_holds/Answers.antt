@@ -1,11 +1,11 @@
--- Two columns that are equated have equal cells where the conjunct holds. Else the values have the kinds of the columns, and the
--- condition uses them as what they are.
+-- Two columns that are equated have equal cells where the conjunct holds. Else the condition uses the columns as what they are.
 use Rattle.std.proofs.Common.{◌≡◌, ◌∙◌, sym, subst, true}
+use Rattle.rs_query.specs.Lent.{AreLent}
 use Rattle.rs_query.specs.Meaning.{is_inside}
 use Rattle.rs_query.specs.WellFormed.{IsColumn}
 use Rattle.rs_table.specs.Lent.{shown}
 use Rattle.rs_order.proofs.EachFacts.{each-slice_get}
-use Rattle.rs_query.proofs.CellFacts.{HaveKinds, condition_uses-values}
+use Rattle.rs_query.proofs.LentFacts.{AreLent-conjunct}
 use Rattle.rs_query.proofs.EntryFacts.{column-inside, row-inside}
 use Rattle.rs_query.proofs.EquatedFacts.{cell-test, conjunct-equated, equality-holds}
 use Rattle.rs_query.proofs.block.Block.conjunct_holds.Goals as goal
@@ -43,9 +43,13 @@ returns-in-Some c =
     ∙ equality-holds c.args.catalog.now c.args.self.now c.args.ids.now.rows c.args.conjunct.now c.requires.conjunct c.in-Some.left c.in-Some.right
     (sym c.equality.ensures ∙ c.in-Some.is) (shown c.cell.result) (shown c.cell-in-Some.result) c.cell.ensures.value c.cell-in-Some.ensures.value c.cell.ensures.fit c.cell-in-Some.ensures.fit
 
-pub test-requires-clause-args : goal.test-requires-clause-args
-test-requires-clause-args c =
-    let have : HaveKinds c.args.catalog.now c.args.self.now c.args.conjunct.now.columns c.deref.result.now =
-    rw c.deref.ensures.value (rw c.columns.ensures at c.in_ok-cells_of.ensures.fit) in
-    rw c.condition.ensures
-    (condition_uses-values c.args.catalog.now c.args.self.now c.args.conjunct.now.columns c.deref.result.now c.args.conjunct.now.condition have c.requires.conjunct.uses)
+pub of-cells-requires : goal.of-cells-requires
+of-cells-requires c =
+    let catalogue = c.args.catalog.now in
+    let block = c.args.self.now in
+    let rows = c.args.ids.now.rows in
+    subst (λ columns. AreLent (record { catalogue = catalogue; block = block; columns = columns; rows = rows })) (sym c.columns.ensures)
+    (AreLent-conjunct catalogue block c.requires.block c.args.conjunct.now c.requires.conjunct c.args.ids.now.mask rows c.requires.inside c.requires.rows)
+
+pub test_lent-requires-clause-args : goal.test_lent-requires-clause-args
+test_lent-requires-clause-args c = rw (c.condition.ensures, c.of-cells.ensures, c.columns.ensures) c.requires.conjunct.uses

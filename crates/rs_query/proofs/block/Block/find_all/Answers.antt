@@ -6,15 +6,15 @@ use Rattle.rs_query.specs.Tables.{row_number}
 use Rattle.rs_query.proofs.FreshFacts.{before-all, before-fails, before-more, before-none}
 use Rattle.rs_query.proofs.block.Block.find_all.Goals as goal
 
-pub returns-then-not-branch : goal.returns-then-not-branch
-returns-then-not-branch c =
-    before-fails c.args.catalog.now c.args.self.now c.requires c.args.old.now (length c.args.self.now.from) c.args.found.now.items (sym c.in_ok-holds_of_all.ensures ∙ c.if-not-branch.true)
+pub returns-then-not-holds_of_all : goal.returns-then-not-holds_of_all
+returns-then-not-holds_of_all c =
+    before-fails c.args.catalog.now c.args.self.now c.requires c.args.old.now (length c.args.self.now.from) c.args.found.now.items (sym c.holds_of_all.ensures ∙ c.if-not-holds_of_all.true)
 
 pub loop-place-init : goal.loop-place-init
 loop-place-init c = before-none c.args.catalog.now c.args.self.now c.args.old.now c.args.found.now.items
 
 pub find-requires-clause-satisfied : goal.find-requires-clause-satisfied
-find-requires-clause-satisfied c = sym c.in_ok-holds_of_all.ensures ∙ c.if-not-branch.false
+find-requires-clause-satisfied c = sym c.holds_of_all.ensures ∙ c.if-not-holds_of_all.false
 
 pub returns-then-old-place-eq0 : goal.returns-then-old-place-eq0
 returns-then-old-place-eq0 c =

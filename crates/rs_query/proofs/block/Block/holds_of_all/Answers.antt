@@ -1,5 +1,5 @@
 -- The conditions within no entry are those without columns.
-use Rattle.std.proofs.Common.{◌≡◌, ◌∙◌, IfOk, ap, replicate, subst}
+use Rattle.std.proofs.Common.{◌∙◌, ap, replicate}
 use Rattle.rs_query.specs.Meaning.{all_hold}
 use Rattle.rs_query.proofs.WithinFacts.{all_hold-within}
 use Rattle.rs_query.proofs.block.Block.holds_of_all.Goals as goal
@@ -8,6 +8,6 @@ pub returns : goal.returns
 returns c =
     let catalogue = c.args.catalog.now in
     let block = c.args.self.now in
-    subst (λ b. IfOk c.holds_with.result (λ holds. holds ≡ b))
-    (ap (λ conjuncts. all_hold catalogue block conjuncts (replicate 6 0) block.conjuncts) c.within.ensures.value ∙ all_hold-within catalogue block 0 (replicate 6 0))
-    c.holds_with.ensures
+    c.holds.ensures
+    ∙ ap (λ conjuncts. all_hold catalogue block conjuncts (replicate 6 0) block.conjuncts) c.within.ensures.value
+    ∙ all_hold-within catalogue block 0 (replicate 6 0)

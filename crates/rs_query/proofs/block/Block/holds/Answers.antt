@@ -4,7 +4,7 @@ use Rattle.std.proofs.lemmas.Bool.{eq-eqb, ne_eqb}
 use Rattle.std.proofs.lemmas.Option.{slice_get_read}
 use Rattle.rs_query.specs.Conjuncts.{ConjunctDef}
 use Rattle.rs_query.proofs.HoldFacts.{AreInside-at, hold_from-more, hold_from-out}
-use Rattle.rs_query.proofs.block.Block.holds_with.Goals as goal
+use Rattle.rs_query.proofs.block.Block.holds.Goals as goal
 
 pub conjunct_holds-requires-clause-inside : goal.conjunct_holds-requires-clause-inside
 conjunct_holds-requires-clause-inside c =
@@ -34,5 +34,5 @@ loop-place-preserved c =
     let within : place < length c.args.self.now.conjuncts = rw (c.deref-conjunct-items.ensures.value, c.items.ensures) at c.loop-place-test.true in
     let in_ : eqb (c.args.conjuncts / 2 ^ place % 2) 1 ≡ true = eq-eqb (c.args.conjuncts / 2 ^ place % 2) 1 (omega arith) in
     sym (hold_from-more c.args.catalog.now c.args.self.now c.args.ids.now.rows c.args.conjuncts c.args.self.now.conjuncts place conjunct within is in_
-    (sym c.in_ok-conjunct_holds.ensures ∙ c.if-not-branch.false))
+    (sym c.conjunct_holds.ensures ∙ c.if-not-conjunct_holds.false))
     ∙ c.loop-place.invariant

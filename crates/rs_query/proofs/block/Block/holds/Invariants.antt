@@ -2,7 +2,7 @@
 use Rattle.std.proofs.Common.{◌≡◌}
 use Rattle.rs_query.specs.Meaning.{all_hold}
 use Rattle.rs_query.proofs.HoldFacts.{hold_from}
-use Rattle.rs_query.proofs.block.Block.holds_with.Given as goal
+use Rattle.rs_query.proofs.block.Block.holds.Given as goal
 
 abbrev pub invariant-loop-place : goal.invariant-loop-place
 invariant-loop-place l =

@@ -1,0 +1,2 @@
+-- Definitions that serve the contracts of private functions alone.
+pub mod Asking

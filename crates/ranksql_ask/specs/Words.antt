@@ -1,0 +1,16 @@
+-- The words behind the files.
+use Rattle.std.specs.Prelude.{ℕ, List, [], ◌∷◌, Option, None, codes, if◌then◌else◌, option_map}
+use Rattle.std.specs.Str.{bytes_eq}
+use Rattle.rs_run.specs.Words.{Form, RunScript, first_some, number_word, plain_form}
+use Rattle.rs_statement.specs.declared.evaluating.Evaluating.TheVariants.{Planned}
+use Rattle.rs_statement.specs.declared.sampling.Sampling.TheVariants.{ByGuesses}
+
+-- the words `run SCRIPT SEED`, SEED from 0 to 18,446,744,073,709,551,615: plans are chosen by guesses
+abbrev pub guessing_form : List (List ℕ) → Option Form
+guessing_form (word ∷ script ∷ seed ∷ []) =
+    if bytes_eq word (codes "run") then option_map (λ seed. RunScript script (Planned (ByGuesses seed))) (number_word 0 18446744073709551615 seed) else None
+guessing_form _ = None
+
+-- the words `plain SCRIPT` or `run SCRIPT SEED`
+abbrev pub asking_form : List (List ℕ) → Option Form
+asking_form words = first_some (plain_form words) (guessing_form words)

@@ -1,0 +1,5 @@
+pub mod Questions
+pub mod Known
+pub mod TableScorer
+pub mod Reading
+pub mod KnownFiles

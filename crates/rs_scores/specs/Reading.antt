@@ -1,0 +1,76 @@
+-- Files of known scores: the scores that their records have, or the first record that is refused.
+use Rattle.std.specs.Prelude.{ℕ, ℤ, ◌≡◌, ◌⊎◌, ◌+◌, ◌-◌, ◌==◌, nat_lt, Bool, true, List, [], ◌∷◌, ◌++◌, find, length, slice_get, slice_index_or, take, Option, Some, None, is_some, option_map, Result, Ok, Err, if◌then◌else◌}
+use Rattle.std.specs.Str.{is_utf8}
+use Rattle.rs_value.specs.Number.{int_value}
+use Rattle.rs_value.specs.Results.{◌>>=◌}
+use Rattle.rs_table.specs.Records.{records_of}
+use Rattle.rs_scores.specs.Known.{Known, is_asked, score_of}
+use Rattle.rs_scores.specs.Questions.{is_same_question}
+use Rattle.rs_scores.specs.declared.fault.KnownFault.{KnownFault}
+use Rattle.rs_scores.specs.declared.fault.KnownFault.TheVariants.{NotEnded, FieldCount, NotUtf8, NotAsked, NotScore, Twice, Memory}
+use Rattle.rs_scores.specs.declared.known_score.KnownScore.{KnownScore}
+
+-- the texts of a record's fields, from the field of this number on
+abbrev pub texts_from : ℕ → ℕ → List (List ℕ) → Result (List (List ℕ)) KnownFault
+texts_from number place [] = Ok []
+texts_from number place (field ∷ rest) =
+    if is_utf8 field then (texts_from number (place + 1) rest >>= λ more. Ok (field ∷ more)) else Err (NotUtf8 number place)
+
+-- the question and the score of texts: the score is the last one
+abbrev pub known_in : List (List ℕ) → ℕ → List (List ℕ) → Result KnownScore KnownFault
+known_in names number texts =
+    if is_asked names (slice_index_or texts 0 []) then scored (int_value (slice_index_or texts (length texts - 1) [])) else Err (NotAsked number) where
+      scored : Option ℤ → Result KnownScore KnownFault
+      scored (Some score) = Ok (record { question = take (length texts - 1) texts; score = score })
+      scored None = Err (NotScore number)
+
+-- the question and the score of the record of this number
+abbrev pub known_of : List (List ℕ) → ℕ → List (List ℕ) → Result KnownScore KnownFault
+known_of names number fields =
+    if nat_lt (length fields) 3 then Err (FieldCount number (length fields))
+    else if nat_lt 10 (length fields) then Err (FieldCount number (length fields))
+    else (texts_from number 1 fields >>= known_in names number)
+
+-- the score of a question among these
+abbrev pub score_in : List (List ℕ) → List KnownScore → Option ℤ
+score_in question scores = option_map (λ known. known.score) (find (λ known. is_same_question known.question question) scores)
+
+-- scores, and one more, whose question is none of theirs
+abbrev pub with_new : ℕ → List KnownScore → KnownScore → Result (List KnownScore) KnownFault
+with_new number before known = if is_some (score_in known.question before) then Err (Twice number) else Ok (before ++ known ∷ [])
+
+-- the scores of the records so far, and that of the next one
+abbrev pub with_record : List (List ℕ) → List KnownScore → List (List ℕ) → Result (List KnownScore) KnownFault
+with_record names before fields = known_of names (length before + 1) fields >>= with_new (length before + 1) before
+
+-- the scores of the records so far, and those of the next ones
+abbrev pub scores_from : List (List ℕ) → List KnownScore → List (List (List ℕ)) → Result (List KnownScore) KnownFault
+scores_from names before [] = Ok before
+scores_from names before (fields ∷ rest) = with_record names before fields >>= λ all. scores_from names all rest
+
+-- the last record is ended: the file is empty, or its last byte is a line feed
+abbrev pub is_ended : List ℕ → Bool
+is_ended bytes = is_end (slice_get bytes (length bytes - 1)) where
+  is_end : Option ℕ → Bool
+  is_end None = true
+  is_end (Some byte) = byte == 10
+
+-- the scores of a file, or why it has none
+abbrev pub scores_in : List (List ℕ) → List ℕ → Result (List KnownScore) KnownFault
+scores_in names bytes = if is_ended bytes then scores_from names [] (records_of bytes) else Err NotEnded
+
+-- a table has exactly these scores
+pub record Knows (names : List (List ℕ)) (scores : List KnownScore) (known : Known) : Type 0 where
+  pub asked : known.names ≡ names
+  pub each : (question : List (List ℕ)) → score_of question known ≡ score_in question scores
+  pub count : length known.scores ≡ length scores
+
+-- what reading into a table left, and answered; there may be no memory
+abbrev pub Reads : List (List ℕ) → Result (List KnownScore) KnownFault → Result (Unit {0}) KnownFault → Known → Type 0
+Reads names answer (Ok done) known = (scores : List KnownScore) × (answer ≡ Ok scores) × Knows names scores known
+Reads names answer (Err fault) known = (fault ≡ Memory) ⊎ (answer ≡ Err fault)
+
+-- what reading made, or answered
+abbrev pub ReadsTable : List (List ℕ) → Result (List KnownScore) KnownFault → Result Known KnownFault → Type 0
+ReadsTable names answer (Ok known) = (scores : List KnownScore) × (answer ≡ Ok scores) × Knows names scores known
+ReadsTable names answer (Err fault) = (fault ≡ Memory) ⊎ (answer ≡ Err fault)

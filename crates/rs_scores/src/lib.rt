@@ -1,0 +1,24 @@
+//! Scores that are known beforehand, for runs whose scores are asked for outside the process: a scorer over a table of known
+//! scores, the file that such scores are kept in, and files that are fetched once.
+//!
+//! Its promise: a call of a predicate that is asked for is answered by its known score, and fails where there is none; every
+//! other call has its formula's value; of a file of scores each record is read as its definition says, or the first one that is
+//! refused is named; and a file has the same bytes at each fetch.
+#![tactic(auto)]
+
+mod fault;
+mod known;
+mod known_files;
+mod known_score;
+mod line;
+mod question;
+mod reading;
+mod table_scorer;
+
+pub use fault::KnownFault;
+pub use known::KnownScores;
+pub use known_files::KnownFiles;
+pub use known_score::KnownScore;
+pub use question::Question;
+pub use reading::{MOST_BYTES, read_scores};
+pub use table_scorer::TableScorer;

@@ -1,0 +1,193 @@
+ghost use Rattle.std.specs.Prelude.{◌≡◌, ◌∷◌, ◌≤◌, ◌<◌, ◌⊎◌, [], List, IfOk, MatchResult, if◌then◌else◌, length, nat_abs, slice_index_or, true};
+ghost use Rattle.std.specs.Bool.{MatchBool};
+ghost use Rattle.std.specs.Str.{is_utf8};
+ghost use Rattle.csv.specs.Records.{fields_of};
+ghost use Rattle.rs_value.specs.Answer.{Gives};
+ghost use Rattle.rs_value.specs.Number.{greatest_int};
+ghost use Rattle.rs_table.specs.Records.{IsReading, records_left, records_of};
+ghost use Rattle.rs_scores.specs.Reading.{Knows, Reads, ReadsTable, is_ended, known_in, known_of, scores_from, scores_in, texts_from, with_record};
+
+use crate::fault::KnownFault;
+use crate::known::KnownScores;
+use crate::known_score::KnownScore;
+use crate::question::Question;
+use csv::{ByteRecord, Reader, ReaderBuilder};
+use rs_value::{Memory, Text, TextFault, int_of};
+use std::alloc::Global;
+
+/// The greatest number of bytes of a file of known scores.
+pub const MOST_BYTES: usize = 33_554_432;
+
+/// The fewest and the most fields of a record: a predicate, 1 to 8 arguments, and a score.
+const LEAST_FIELDS: usize = 3;
+
+const MOST_FIELDS: usize = 10;
+
+/// The known scores of a file, of predicates that are asked for and have these names. Each record of the file is a predicate's
+/// name, its arguments as they are printed, and the score. An empty file has none.
+///
+/// # Errors
+/// What refuses the file first: that its last record isn't ended, and then record by record the number of its fields, a
+/// field that isn't UTF-8, a predicate that isn't asked for, a score that is no number, and a second score of one question.
+pub fn read_scores(alloc: Global, names: Vec<Text>, bytes: &[u8]) -> Result<KnownScores, KnownFault>
+    requires { length bytes.now ≤ 33554432 }
+    ensures { ReadsTable names.items (scores_in names.items bytes.now) result }
+{
+    let mut known = KnownScores::new(alloc, names);
+    read_into(alloc, bytes, &mut known)?;
+    Ok(known)
+}
+
+/// Reads the scores of a file into a table that has none.
+fn read_into(alloc: Global, bytes: &[u8], known: &mut KnownScores) -> Result<(), KnownFault>
+    requires few { length bytes.now ≤ 33554432 }
+    requires none { known.old.scores ≡ [] }
+    ensures { Reads known.old.names (scores_in known.old.names bytes.now) result known.new }
+{
+    if !is_ended(bytes) {
+        return Err(KnownFault::NotEnded);
+    }
+    read_records(alloc, bytes, known)
+}
+
+/// Whether the last record is ended.
+fn is_ended(bytes: &[u8]) -> bool
+    ensures { result ≡ is_ended bytes.now }
+{
+    match bytes.last() {
+        Some(byte) => *byte == b'\n',
+        None => true,
+    }
+}
+
+/// Reads the scores of the records of a file into a table that has none.
+fn read_records(alloc: Global, bytes: &[u8], known: &mut KnownScores) -> Result<(), KnownFault>
+    requires few { length bytes.now ≤ 33554432 }
+    requires none { known.old.scores ≡ [] }
+    ensures { Reads known.old.names (scores_from known.old.names [] (records_of bytes.now)) result known.new }
+{
+    let mut reader = reader_of(alloc, bytes);
+    let mut row = ByteRecord::new(alloc);
+    while next_record(&mut reader, &mut row)? {
+        add_record(alloc, &row, known)?;
+    }
+    Ok(())
+}
+
+/// What reads the records of these bytes, behind one byte order mark.
+fn reader_of<'a>(alloc: Global, bytes: &'a [u8]) -> Reader<&'a [u8]>
+    requires { length bytes.now ≤ 33554432 }
+    ensures reading { IsReading result }
+    ensures records { records_left result ≡ records_of bytes.now }
+{
+    ReaderBuilder::new()
+        .has_headers(false)
+        .flexible(true)
+        .from_reader(alloc, bytes)
+}
+
+/// Reads the next record, where one is left.
+fn next_record<'a>(reader: &mut Reader<&'a [u8]>, row: &mut ByteRecord) -> Result<bool, Memory>
+    requires { IsReading reader.old }
+    ensures found { IfOk result (λ found.
+        MatchBool found (records_left reader.old ≡ fields_of row.new ∷ records_left reader.new) (records_left reader.old ≡ [])) }
+    ensures reading { IfOk result (λ found. found ≡ true → IsReading reader.new) }
+{
+    // Records may differ in length and are read as bytes, so an error is no fault of the file.
+    let Ok(found) = reader.read_byte_record(row) else {
+        return Err(Memory);
+    };
+    Ok(found)
+}
+
+/// Adds the score of the next record.
+fn add_record(alloc: Global, row: &ByteRecord, known: &mut KnownScores) -> Result<(), KnownFault>
+    ensures { (before : List KnownScore) → Knows known.old.names before known.old
+        → Reads known.old.names (with_record known.old.names before (fields_of row.now)) result known.new }
+{
+    let number = known.len() as u64 + 1;
+    let entry = known_of(alloc, known.names(), number, row)?;
+    if known.add(entry.question, entry.score)? {
+        Ok(())
+    } else {
+        Err(KnownFault::Twice { number })
+    }
+}
+
+/// The question and the score of the record of this number.
+fn known_of(
+    alloc: Global,
+    names: &[Text],
+    number: u64,
+    row: &ByteRecord,
+) -> Result<KnownScore, KnownFault>
+    ensures gives { Gives KnownFault.Memory (known_of names.now number (fields_of row.now)) result }
+    ensures in_range { IfOk result (λ entry. nat_abs entry.score ≤ greatest_int) }
+{
+    let count = row.len();
+    if count < LEAST_FIELDS {
+        return Err(KnownFault::FieldCount {
+            number,
+            found: count as u64,
+        });
+    }
+    if count > MOST_FIELDS {
+        return Err(KnownFault::FieldCount {
+            number,
+            found: count as u64,
+        });
+    }
+    let texts = texts_of(alloc, number, row)?;
+    known_in(names, number, texts)
+}
+
+/// The texts of a record's fields.
+fn texts_of(alloc: Global, number: u64, row: &ByteRecord) -> Result<Vec<Text>, KnownFault>
+    ensures gives { MatchResult result (λ texts. texts_from number 1 (fields_of row.now) ≡ Ok texts.items)
+        (λ fault. (fault ≡ KnownFault.Memory) ⊎ (texts_from number 1 (fields_of row.now) ≡ Err fault)) }
+    ensures same { IfOk result (λ texts. texts.items ≡ fields_of row.now) }
+{
+    let mut texts = Vec::new(alloc);
+    for index in 0..row.len() {
+        texts.push(text_of(alloc, number, index as u64 + 1, field_at(row, index))?)?;
+    }
+    Ok(texts)
+}
+
+/// The field of a record at this place, counted from 0.
+fn field_at(row: &ByteRecord, place: usize) -> &[u8]
+    requires { place < length (fields_of row.now) }
+    ensures { result.now ≡ slice_index_or (fields_of row.now) place [] }
+{
+    row.get(place).unwrap()
+}
+
+/// The text of a field.
+fn text_of(alloc: Global, number: u64, field: u64, bytes: &[u8]) -> Result<Text, KnownFault>
+    ensures { Gives KnownFault.Memory (if is_utf8 bytes.now then Ok bytes.now else Err (KnownFault.NotUtf8 number field)) result }
+{
+    match Text::from_bytes(alloc, bytes) {
+        Ok(text) => Ok(text),
+        Err(TextFault::NotUtf8 { .. }) => Err(KnownFault::NotUtf8 { number, field }),
+        Err(TextFault::Memory) => Err(KnownFault::Memory),
+    }
+}
+
+/// The question and the score of the texts of a record.
+fn known_in(names: &[Text], number: u64, mut texts: Vec<Text>) -> Result<KnownScore, KnownFault>
+    requires { 0 < length texts.items }
+    ensures value { result ≡ known_in names.now number texts.items }
+    ensures in_range { IfOk result (λ entry. nat_abs entry.score ≤ greatest_int) }
+{
+    if !names.contains(&texts[0]) {
+        return Err(KnownFault::NotAsked { number });
+    }
+    let last = texts.pop().unwrap();
+    match int_of(last.bytes()) {
+        Some(score) => Ok(KnownScore {
+            question: Question::new(texts),
+            score,
+        }),
+        None => Err(KnownFault::NotScore { number }),
+    }
+}

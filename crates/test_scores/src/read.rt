@@ -1,0 +1,116 @@
+//! Files of known scores.
+
+ghost use Rattle.std.specs.Prelude.{◌≤◌, length};
+
+use rs_scores::{KnownFault, KnownScores, MOST_BYTES, read_scores};
+use rs_value::Text;
+use std::alloc::Global;
+use std::process::Abort;
+use std::test::Fail;
+
+/// The predicates `near` and `liked` are asked for.
+pub(crate) fn names(alloc: Global) -> Result<Vec<Text>, Fail> {
+    let mut names = Vec::new(alloc);
+    names.push(Text::from_bytes(alloc, b"near")?)?;
+    names.push(Text::from_bytes(alloc, b"liked")?)?;
+    Ok(names)
+}
+
+/// A file, and how many scores it has, or the first thing that refuses it.
+type Row = (&'static [u8], Result<usize, KnownFault>);
+
+const FILES: [Row; 22] = [
+    (b"", Ok(0)),
+    (b"near,5,77\n", Ok(1)),
+    (b"near,5,77\r\n\r\nliked,5,-3\n", Ok(2)),
+    (b"\xEF\xBB\xBFnear,5,77\n", Ok(1)),
+    (b"near,\"a,b\",3\nnear,\"a\nb\",4\nnear,\"\"\"\",5\n", Ok(3)),
+    (b"near,1,2,3,4,5,6,7,8,9\n", Ok(1)),
+    (b"near,5,+7\nnear,05,7\n", Ok(2)),
+    (b"near,5,4000000000000000000\n", Ok(1)),
+    (b"near,5,77", Err(KnownFault::NotEnded)),
+    (b"near,5,7\nnear", Err(KnownFault::NotEnded)),
+    (
+        b"near,77\n",
+        Err(KnownFault::FieldCount {
+            number: 1,
+            found: 2,
+        }),
+    ),
+    (
+        b"near,5,7\nnear\n",
+        Err(KnownFault::FieldCount {
+            number: 2,
+            found: 1,
+        }),
+    ),
+    (
+        b"near,1,2,3,4,5,6,7,8,9,0\n",
+        Err(KnownFault::FieldCount {
+            number: 1,
+            found: 11,
+        }),
+    ),
+    (
+        b"near,\"5,77\n",
+        Err(KnownFault::FieldCount {
+            number: 1,
+            found: 2,
+        }),
+    ),
+    (b"far,5,77\n", Err(KnownFault::NotAsked { number: 1 })),
+    (b"Near,5,77\n", Err(KnownFault::NotAsked { number: 1 })),
+    (
+        b"near,5,1\nnear,\xFF,1\n",
+        Err(KnownFault::NotUtf8 {
+            number: 2,
+            field: 2,
+        }),
+    ),
+    (b"near,5,\n", Err(KnownFault::NotScore { number: 1 })),
+    (b"near,5,7.5\n", Err(KnownFault::NotScore { number: 1 })),
+    (
+        b"near,5,4000000000000000001\n",
+        Err(KnownFault::NotScore { number: 1 }),
+    ),
+    (
+        b"near,5,1\nliked,5,1\nnear,5,1\n",
+        Err(KnownFault::Twice { number: 3 }),
+    ),
+    (
+        b"near,5,1\nnear,\"5\",2\nfar,1,1\n",
+        Err(KnownFault::Twice { number: 2 }),
+    ),
+];
+
+/// How many scores a file has.
+fn count_of(alloc: Global, names: Vec<Text>, bytes: &[u8]) -> Result<usize, KnownFault>
+    requires { length bytes.now ≤ 33554432 }
+{
+    let known = read_scores(alloc, names, bytes)?;
+    Ok(known.len())
+}
+
+fn assert_file(rt: &impl Abort, alloc: Global, row: &Row) -> Result<(), Fail> {
+    assert!(rt; row.0.len() <= MOST_BYTES);
+    let count = count_of(alloc, names(alloc)?, row.0);
+    assert_eq!(rt; count, row.1);
+    Ok(())
+}
+
+#[test]
+fn reads_files_of_scores(rt: HostRuntime) -> Result<(), Fail> {
+    for row in &FILES {
+        assert_file(&rt, rt.alloc(), row)?;
+    }
+    Ok(())
+}
+
+/// The scores of a file.
+pub(crate) fn known_of(rt: &impl Abort, alloc: Global, bytes: &[u8]) -> Result<KnownScores, Fail> {
+    assert!(rt; bytes.len() <= MOST_BYTES);
+    match read_scores(alloc, names(alloc)?, bytes) {
+        Ok(known) => Ok(known),
+        Err(_) => Err(Fail::new("refused")),
+    }
+}
