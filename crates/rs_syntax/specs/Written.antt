@@ -46,9 +46,9 @@ pub record IsWrittenRow (row : RowSyn) : Type 0 where
   pub cells : AllByRecursion IsWrittenCell row.cells
 
 -- an INSERT has a row
-pub record IsWrittenInsert (rows : List RowSyn) : Type 0 where
-  pub some : 1 ≤ length rows
-  pub rows : AllByRecursion IsWrittenRow rows
+pub record IsWrittenInsert (inserted : List RowSyn) : Type 0 where
+  pub some : 1 ≤ length inserted
+  pub rows : AllByRecursion IsWrittenRow inserted
 
 -- a table has a column, a predicate a parameter, an INSERT a row, and the numbers among arguments and in rows are in range
 abbrev pub IsWritten : Command → Type 0
