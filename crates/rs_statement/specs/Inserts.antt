@@ -1,6 +1,5 @@
 -- What an INSERT does: its rows join their table, and the rank indexes of the table.
-use Rattle.std.specs.Prelude.{ℕ, List, [], option_map, unwrap_or, slice_get, Result, Ok, Err}
-use Rattle.rs_value.specs.Results.{◌>>=◌}
+use Rattle.std.specs.Prelude.{ℕ, ◌<◌, List, [], length, option_map, unwrap_or, slice_get, Result, Ok, Err}
 use Rattle.rs_value.specs.declared.value.Value.{Value}
 use Rattle.rs_catalog.specs.Catalog.{CatalogDef, RankIndex}
 use Rattle.rs_catalog.specs.Growing.{grown, growing}
@@ -33,3 +32,9 @@ abbrev pub rows_step : Answering → CatalogDef → ℕ × List (List Value) →
 rows_step answer catalogue joining =
     let asked = growing answer catalogue joining.0 joining.1 in
     record { events = calls_in asked; outcome = grow_outcome catalogue joining.0 joining.1 asked.outcome }
+
+-- why rows didn't join is told of an index that is there
+abbrev pub NamesIndex : CatalogDef → GrowFault → Type 0
+NamesIndex catalogue (grow.BadScore index row got max) = index < length catalogue.indexes
+NamesIndex catalogue (grow.Probe index) = index < length catalogue.indexes
+NamesIndex catalogue grow.Memory = Unit {0}

@@ -6,25 +6,25 @@ use Rattle.rs_syntax.proofs.parser.Parser.rows.Goals as goal
 pub returns-in_err-row : goal.returns-in_err-row
 returns-in_err-row c = goes_on _ _ (search rules) (halts-rule (halts-first c.in_err-row.ensures))
 
-pub loop-self-init : goal.loop-self-init
-loop-self-init c = rw (c.in_ok-push.ensures.items, c.new-rows.ensures.items) (Listing-start c.in_ok-row.ensures)
+pub loop-alloc-init : goal.loop-alloc-init
+loop-alloc-init c = rw (c.in_ok-push.ensures.items, c.new-rows.ensures.items) (Listing-start c.in_ok-row.ensures)
 
 pub returns-in_err-expect : goal.returns-in_err-expect
 returns-in_err-expect c =
-    goes_on _ _ (search rules) (halts-rule (Listing-halts c.loop-self.invariant (sym c.loop-self-test.ensures) (halts-first c.in_err-expect.ensures)))
+    goes_on _ _ (search rules) (halts-rule (Listing-halts c.loop-alloc.invariant (sym c.loop-alloc-test.ensures) (halts-first c.in_err-expect.ensures)))
 
 pub returns-in_err-row-2 : goal.returns-in_err-row-2
 returns-in_err-row-2 c =
     goes_on _ _ (search rules)
-    (halts-rule (Listing-halts c.loop-self.invariant (sym c.loop-self-test.ensures) (halts-then c.in_ok-expect.ensures.read c.in_err-row-2.ensures)))
+    (halts-rule (Listing-halts c.loop-alloc.invariant (sym c.loop-alloc-test.ensures) (halts-then c.in_ok-expect.ensures.read c.in_err-row-2.ensures)))
 
-pub loop-self-smaller : goal.loop-self-smaller
-loop-self-smaller c = read-shorter refl (read-both c.in_ok-expect.ensures.read c.in_ok-row-2.ensures.read)
+pub loop-alloc-smaller : goal.loop-alloc-smaller
+loop-alloc-smaller c = read-shorter refl (read-both c.in_ok-expect.ensures.read c.in_ok-row-2.ensures.read)
 
-pub loop-self-preserved : goal.loop-self-preserved
-loop-self-preserved c =
+pub loop-alloc-preserved : goal.loop-alloc-preserved
+loop-alloc-preserved c =
     rw c.in_ok-push-2.ensures.items
-    (Listing-more c.loop-self.invariant (sym c.loop-self-test.ensures) (read-both c.in_ok-expect.ensures.read c.in_ok-row-2.ensures.read) c.in_ok-row-2.ensures.means)
+    (Listing-more c.loop-alloc.invariant (sym c.loop-alloc-test.ensures) (read-both c.in_ok-expect.ensures.read c.in_ok-row-2.ensures.read) c.in_ok-row-2.ensures.means)
 
 pub returns : goal.returns
-returns c = let all = Listing-end c.loop-self.invariant (sym c.loop-self-test.ensures) in rw c.of.ensures (found (read-rule all.read) all.means)
+returns c = let all = Listing-end c.loop-alloc.invariant (sym c.loop-alloc-test.ensures) in rw c.of.ensures (found (read-rule all.read) all.means)

@@ -5,8 +5,8 @@ use Rattle.rs_syntax.specs.Statements.{row_of}
 use Rattle.rs_syntax.proofs.Lists.{Listing}
 use Rattle.rs_syntax.proofs.parser.Parser.rows.Given as goal
 
-abbrev pub invariant-loop-self : goal.invariant-loop-self
-invariant-loop-self l = Listing (Use row) (word Comma ⨟ Use row) row_of l.fn.self l.self l.rows.items
+abbrev pub invariant-loop-alloc : goal.invariant-loop-alloc
+invariant-loop-alloc l = Listing (Use row) (word Comma ⨟ Use row) row_of l.fn.self l.self l.rows.items
 
-abbrev pub decreases-loop-self : goal.decreases-loop-self
-decreases-loop-self l = length l.self.rest
+abbrev pub decreases-loop-alloc : goal.decreases-loop-alloc
+decreases-loop-alloc l = length l.self.rest
