@@ -5,6 +5,7 @@ mod LineFacts
 mod PrintFacts
 pub mod StepFacts
 mod IndexSteps
+mod InsertSteps
 mod QuerySteps
 mod SampleSteps
 mod PlanSteps

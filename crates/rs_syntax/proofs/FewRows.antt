@@ -1,15 +1,15 @@
 -- An INSERT that is read has few rows: the bracket of each takes one of the tokens that may count.
-use Rattle.std.proofs.Common.{ℕ, ◌≡◌, ◌+◌, ◌<◌, ◌≤◌, Bool, true, false, List, [], ◌∷◌, length, refl, subst, arith, if◌then◌else◌}
+use Rattle.std.proofs.Common.{ℕ, ◌≡◌, ◌+◌, ◌<◌, ◌≤◌, Bool, true, false, List, length, refl, subst, arith, if◌then◌else◌}
 use Rattle.std.specs.List.{AllByRecursion}
 use Rattle.std.proofs.lemmas.List.{length-map}
-use Rattle.rs_grammar.specs.Grammar.{Part, Many, Use, ◌⨟◌, word, script, statements, statement, insert, rows, row, Tree, Nothing, Pair, This, That, More, Node}
+use Rattle.rs_grammar.specs.Grammar.{Many, Use, ◌⨟◌, word, script, statements, statement, insert, rows, row, Tree, This, That}
 use Rattle.rs_grammar.specs.Places.{most_deep}
 use Rattle.rs_grammar.specs.Reading as reading
 use Rattle.rs_grammar.specs.Reading.{State, Read}
 use Rattle.rs_grammar.specs.declared.kind.TokenKind.TheVariants.{Comma, Semicolon}
 use Rattle.rs_lex.specs.declared.token.Token.{Token}
 use Rattle.rs_syntax.specs.Scripts.{Parses, IsSound}
-use Rattle.rs_syntax.specs.Statements.{select_of, create_in, create_of, explain_of, row_of, rows_of, insert_of, statement_of, statements_of, script_of}
+use Rattle.rs_syntax.specs.Statements.{select_of, create_in, row_of, rows_of, insert_of, statement_of, statements_of, script_of}
 use Rattle.rs_syntax.specs.Syntax.{Command, Explain, ExplainAnalyze}
 use Rattle.rs_syntax.specs.Trees.{last, items_of, is_there, of_rule, last_of_rule}
 use Rattle.rs_syntax.specs.Written.{HasFewRows}

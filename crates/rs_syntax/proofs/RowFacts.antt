@@ -1,5 +1,5 @@
 -- The spans of an INSERT and of its rows are in order.
-use Rattle.std.proofs.Common.{ℕ, [], ◌∷◌, refl, arith}
+use Rattle.std.proofs.Common.{ℕ, [], ◌∷◌, refl}
 use Rattle.rs_grammar.specs.Kinds.{names}
 use Rattle.rs_grammar.specs.Grammar.{Use, ◌⨟◌, word, optional, Tree, Pair, This, That, Node, Fits}
 use Rattle.rs_grammar.specs.Grammar as grammar

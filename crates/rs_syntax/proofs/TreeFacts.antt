@@ -1,25 +1,13 @@
 -- Trees whose tokens are in order, and the places of their parts.
-use Rattle.std.proofs.Common.{ℕ, ◌≡◌, ◌+◌, ◌<◌, ◌≤◌, Bool, true, false, List, [], ◌∷◌, ◌++◌, length, map, Option, Some, None, refl, arith, if◌then◌else◌}
+use Rattle.std.proofs.Common.{ℕ, ◌≡◌, ◌<◌, ◌≤◌, true, false, List, [], ◌∷◌, ◌++◌, map, refl, arith}
 use Rattle.rs_lex.specs.declared.token.Span.{Span}
-use Rattle.rs_lex.specs.declared.token.Token.{Token}
-use Rattle.rs_lex.specs.Spelling.{TokensInOrder, Spells}
-use Rattle.rs_lex.proofs.SpellingFacts.{TokensInOrder-spelled}
-use Rattle.rs_grammar.specs.Kinds.{names, plain_names}
-use Rattle.rs_grammar.specs.Grammar.{Part, One, Many, Use, ◌⨟◌, word, name, optional, Tree, Leaf, Nothing, Pair, This, That, More, Node, yield, start_of, end_after, Fits}
-use Rattle.rs_grammar.specs.Grammar as grammar
+use Rattle.rs_grammar.specs.Grammar.{Part, One, Many, ◌⨟◌, optional, Tree, Leaf, Nothing, Pair, This, That, More, Node, yield, start_of, end_after, Fits}
 use Rattle.rs_grammar.specs.Reading.{nullable}
 use Rattle.rs_grammar.specs.declared.kind.TokenKind.{TokenKind}
-use Rattle.rs_grammar.specs.declared.kind.TokenKind.TheVariants as kind
 use Rattle.rs_grammar.specs.declared.lexeme.Lexeme.{Lexeme}
 use Rattle.rs_grammar.proofs.Beginnings.{Fits-nullable}
-use Rattle.rs_syntax.specs.declared.name.Name.{Name}
-use Rattle.rs_syntax.specs.declared.name.ColRef.{ColRef}
-use Rattle.rs_syntax.specs.Syntax.{Expression, Int, Text, Column, Neg, Arith, Abs, Least, Greatest, Case, Compare, And, Or, Not, Command, Explain, ExplainAnalyze}
-use Rattle.rs_syntax.specs.Trees.{starts_at, ends_at, span, leaf, part, last, if_there, is_there, items_of, listed, is_of_kind, kind_at, leaf_name, qualified, colref_of, span_of}
-use Rattle.rs_syntax.specs.Expressions.{expr_of, ors, conj_of, ands, neg_of, comp_of, sum_of, sums, prod_of, prods, sign_of, base_of, absolute_of, extreme_in, extreme_of, brackets_of, case_of, cases, condition_of, result_of, adding_of, multiplying_of}
-use Rattle.rs_syntax.specs.Statements.{column_of, columns_of, arg_of, args_of, weight_of, term_of, terms_of, alias_of, entry_of, entries_of, select_items_of, filter_of, block_of, right_of, limit_of, select_of, create_table_of, create_predicate_of, create_rank_index_of, create_of, declare_of, fetch_of, close_of, explain_of, statement_of, statements_of, script_of}
-use Rattle.rs_syntax.specs.Scripts.{Parses, lexemes_of}
-use Rattle.rs_syntax.specs.Spans.{Lies, ◌before◌, Whole, Maybe, Each, NameIn, ColumnIn, ExpressionIn, ArgIn, NumberIn, TermIn, ItemsIn, EntryIn, BlockIn, RightIn, QueryIn, TypedIn, CommandIn, SpansInOrder}
+use Rattle.rs_syntax.specs.Trees.{starts_at, ends_at, leaf, last, if_there, items_of, listed}
+use Rattle.rs_syntax.specs.Spans.{Lies, Maybe, Each}
 
 -- tokens are in order from one place up to another
 abbrev pub Ordered : ℕ → ℕ → List Lexeme → Type 0

@@ -11,7 +11,7 @@ use Rattle.rs_grammar.specs.declared.lexeme.Lexeme.{Lexeme}
 use Rattle.rs_grammar.proofs.LexemeFacts.{IsFront-whole}
 use Rattle.rs_syntax.specs.Numbers.{IsNumber, AreNumbers}
 use Rattle.rs_syntax.specs.Scripts.{Parses}
-use Rattle.rs_syntax.specs.Statements.{signed_of, arg_in, arg_of, args_of, cell_in, cell_of, cells_of, row_of, rows_of, term_of, terms_of, block_of, right_of, select_of, columns_of, create_in, create_of, statement_in, statement_of, statements_of, script_of}
+use Rattle.rs_syntax.specs.Statements.{signed_of, arg_in, arg_of, args_of, cell_in, cell_of, row_of, rows_of, term_of, terms_of, block_of, right_of, select_of, columns_of, create_in, create_of, statement_in, statement_of, statements_of, script_of}
 use Rattle.rs_syntax.specs.Syntax.{Block, Command, Explain, ExplainAnalyze}
 use Rattle.rs_syntax.specs.Trees.{leaf, last, part, inside, of_rule, last_of_rule, if_there, is_there, items_of, listed}
 use Rattle.rs_value.specs.declared.set_op.SetOp.{SetOp}
