@@ -1,5 +1,6 @@
 mod WorkedLines
 mod WorkedStatements
+mod WorkedInserts
 mod WorkedSession
 mod LineFacts
 mod PrintFacts
