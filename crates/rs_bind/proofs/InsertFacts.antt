@@ -1,6 +1,6 @@
 -- Rows whose binding is well may join their table.
 use Rattle.std.proofs.Common.{◌≡◌, ℕ, ◌+◌, ◌≤◌, ◌==◌, true, List, [], ◌∷◌, length, sym, subst, ap, ◌∙◌, refl, arith, inl, inr}
-use Rattle.std.specs.Prelude.{nat_abs, nat_le, ◌&&◌, Option, Some, None, option_map, Result, Ok, Err, unwrap_or, if◌then◌else◌}
+use Rattle.std.specs.Prelude.{nat_abs, nat_le, ◌&&◌, Some, option_map, Result, Ok, Err, unwrap_or, if◌then◌else◌}
 use Rattle.std.specs.List.{AllByRecursion}
 use Rattle.std.proofs.lemmas.Bool.{le-leb, leb-true}
 use Rattle.rs_value.specs.Answer.{Gives}

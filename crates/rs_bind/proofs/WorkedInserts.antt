@@ -5,7 +5,6 @@ use Rattle.rs_value.specs.declared.kind.Kind.TheVariants as kind
 use Rattle.rs_value.specs.declared.value.Value.{Value}
 use Rattle.rs_value.specs.declared.value.Value.TheVariants as value
 use Rattle.rs_lex.specs.declared.token.Span.{Span}
-use Rattle.rs_syntax.specs.declared.name.Name.{Name}
 use Rattle.rs_syntax.specs.declared.row.Cell.{Cell}
 use Rattle.rs_syntax.specs.declared.row.Cell.TheVariants as cell
 use Rattle.rs_syntax.specs.declared.row.RowSyn.{RowSyn}

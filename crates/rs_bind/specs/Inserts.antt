@@ -1,5 +1,5 @@
 -- The rows of an INSERT, and the table that they join.
-use Rattle.std.specs.Prelude.{ℕ, nat_le, ◌+◌, ◌==◌, List, [], ◌∷◌, length, Option, option_map, unwrap_or, slice_get, Result, Ok, Err, if◌then◌else◌}
+use Rattle.std.specs.Prelude.{ℕ, nat_le, ◌+◌, ◌==◌, List, [], ◌∷◌, length, option_map, unwrap_or, slice_get, Result, Ok, Err, if◌then◌else◌}
 use Rattle.rs_value.specs.declared.kind.Kind.{Kind}
 use Rattle.rs_value.specs.declared.kind.Kind.TheVariants as kind
 use Rattle.rs_value.specs.declared.value.Value.{Value}

@@ -36,11 +36,7 @@ pub fn bind_insert(
 }
 
 /// The rows that join a table, from left to right.
-fn bind_rows(
-    alloc: Global,
-    table: &Table,
-    rows: &[RowSyn],
-) -> Result<Vec<List<Value>>, BindFault>
+fn bind_rows(alloc: Global, table: &Table, rows: &[RowSyn]) -> Result<Vec<List<Value>>, BindFault>
     ensures { Gives BindFault.Memory (rows_for_table table.now rows.now) (result_map (λ made. made.items) result) }
 {
     let columns = table.schema().columns();
