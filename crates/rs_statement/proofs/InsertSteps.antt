@@ -94,7 +94,7 @@ module _ (catalogue : CatalogDef) where
       row-told : (args : List BoundArg) (row : ℕ) (values : List Value) → Tells (scoring_new answer number predicate args row values)
       row-told args row values = record { requests = ((within, ap Probe named), tt); outcome = go (is_score predicate.max (answer predicate (args_in args values))) } where
         go : (b : Bool)
-            → IsToldOutcome (if b then Ok (record { score = as_score (answer predicate (args_in args values)); row = row }) else Err (grow.BadScore number row (answer predicate (args_in args values)) predicate.max))
+            → IsToldOutcome {A = ScoredRow} (if b then Ok (record { score = as_score (answer predicate (args_in args values)); row = row }) else Err (grow.BadScore number row (answer predicate (args_in args values)) predicate.max))
         go true = tt
         go false = within
 
@@ -131,7 +131,7 @@ module _ (catalogue : CatalogDef) where
     fault-told why old new asked = go asked.comes where
       go : (InquiryEnds (growing answer catalogue table rows) (Err why) old new ⊎ InquiryFails (growing answer catalogue table rows) (Err why) old new)
           ⊎ InquiryStops grow.Memory (growing answer catalogue table rows) (Err why) old new → NamesIndex catalogue why
-      go (inl (inl ends)) = subst IsToldOutcome (sym ends.gives) all-told.outcome
+      go (inl (inl ends)) = subst (λ (r : Result (List RankIndex) GrowFault). IsToldOutcome r) (sym ends.gives) all-told.outcome
       go (inl (inr fails)) =
           let same : fails.last.failed ≡ why = (let e = fails.gives in cc) in
           subst (NamesIndex catalogue) same (all-last IsTold fails.done fails.last fails.rest (subst (AllByRecursion IsTold) fails.split all-told.requests)).0
