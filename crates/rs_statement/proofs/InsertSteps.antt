@@ -139,6 +139,20 @@ module _ (catalogue : CatalogDef) where
           let same : grow.Memory ≡ why = (let e = stops.gives in cc) in
           subst (NamesIndex catalogue) same tt
 
+-- rows didn't join: why is told of an index that is there, and the catalogue is as it was
+module _ (catalogue new : CatalogDef) (table : ℕ) (rows : List (List Value)) (before after : ScorerState) (why : GrowFault) (grows : GrowsBy table rows catalogue new (Err why) before after) where
+  refused : grows.indexes ≡ Err why
+  refused = grown-err grows.indexes why grows.answers
+
+  asked_in_vain : Inquires grow.Memory (growing before.answer catalogue table rows) (Err why) before after
+  asked_in_vain = subst (λ r. Inquires grow.Memory (growing before.answer catalogue table rows) r before after) refused grows.inquires
+
+  pub Rows-named : NamesIndex catalogue why
+  Rows-named = fault-told catalogue before.answer table rows why before after asked_in_vain
+
+  pub Rows-kept : new ≡ catalogue
+  Rows-kept = grows.joins ∙ ap (λ r. catalogue_grown table rows r catalogue) refused
+
 module _ (catalogue new : CatalogDef) (table : ℕ) (rows : List (List Value)) (environment : Environment) (scorer : ScorerState) where
   abbrev asking : Inquiry (List RankIndex) GrowFault
   asking = growing environment.scorer.answer catalogue table rows
@@ -161,18 +175,6 @@ module _ (catalogue new : CatalogDef) (table : ℕ) (rows : List (List Value)) (
 
   -- they didn't
   module _ (why : GrowFault) (grows : GrowsBy table rows catalogue new (Err why) environment.scorer scorer) where
-    refused : grows.indexes ≡ Err why
-    refused = grown-err grows.indexes why grows.answers
-
-    asked_in_vain : Inquires grow.Memory asking (Err why) environment.scorer scorer
-    asked_in_vain = subst (λ r. Inquires grow.Memory asking r environment.scorer scorer) refused grows.inquires
-
-    pub Rows-named : NamesIndex catalogue why
-    Rows-named = fault-told catalogue environment.scorer.answer table rows why environment.scorer scorer asked_in_vain
-
-    pub Rows-kept : new ≡ catalogue
-    Rows-kept = grows.joins ∙ ap (λ r. catalogue_grown table rows r catalogue) refused
-
     pub Rows-refused : (fault : Fault) → (fault ≡ grow_fault catalogue why) ⊎ (fault ≡ Memory)
         → Stepped (λ step. step ≡ rows_step environment.scorer.answer catalogue (table, rows)) new (Err fault) environment behind
     Rows-refused fault says = record {
@@ -181,6 +183,6 @@ module _ (catalogue new : CatalogDef) (table : ℕ) (rows : List (List Value)) (
       ran = Ran-unasked (grow_fault catalogue) grow.Memory asking why environment scorer (run_of (rows_step environment.scorer.answer catalogue (table, rows))) [] fault
           (calls-told catalogue environment.scorer.answer table rows) refl
           (events-run_of (calls_in asking) (grow_outcome catalogue table rows asking.outcome) ∙ sym (append-nil (calls_in asking)))
-          (λ e. ap (λ r. run_of (step_of (calls_in asking) (grow_outcome catalogue table rows r))) e) says asked_in_vain;
+          (λ e. ap (λ r. run_of (step_of (calls_in asking) (grow_outcome catalogue table rows r))) e) says (asked_in_vain catalogue new table rows environment.scorer scorer why grows);
       leaves = tt;
     }

@@ -2,8 +2,8 @@ use Rattle.std.proofs.Common.{◌≡◌, ◌≤◌, ◌+◌, arith, drop, length
 use Rattle.std.specs.Prelude.{IfOk}
 use Rattle.rs_exec.specs.Cursors.{asks_of}
 use Rattle.rs_statement.specs.Lines.{rank_lines}
-use Rattle.rs_statement.specs.Parts.Session.{IsAskedMore, asked_of, next_of, next_of_cursor, rows_step, source_of}
-use Rattle.rs_statement.specs.Parts.Steps.{Ran, Stepped}
+use Rattle.rs_statement.specs.Parts.Session.{IsAskedMore, asked_of, next_of, next_of_cursor, source_of}
+use Rattle.rs_statement.specs.Parts.Steps.{Ran}
 use Rattle.rs_events.specs.Run.{lines_run}
 use Rattle.rs_statement.specs.Session.{ByPlan, next_rows}
 use Rattle.rs_statement.specs.declared.session.CursorRows.TheVariants as held
