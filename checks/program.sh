@@ -388,9 +388,9 @@ while IFS= read -r line; do
     lines=$((lines + 1))
     grep -rqxF --include='*.sql' -e "$line" "$root/examples" || failed "no example has the line of GRAMMAR.md: $line"
 done < <(
-    sed -nE 's/^    ((CREATE|SELECT|FROM|WHERE|ORDER BY|LIMIT) .*)$/\1/p' "$grammar"
+    sed -nE 's/^    ((CREATE|INSERT|SELECT|FROM|WHERE|ORDER BY|LIMIT) .*)$/\1/p' "$grammar"
     # shellcheck disable=SC2016
-    sed -nE 's/^\| [^|`]+ \| `((CREATE|SELECT|EXPLAIN) [^|`]+)` \|$/\1;/p' "$grammar"
+    sed -nE 's/^\| [^|`]+ \| `((CREATE|INSERT|SELECT|EXPLAIN) [^|`]+)` \|$/\1;/p' "$grammar"
 )
 [ "$lines" -gt 0 ] || failed 'GRAMMAR.md shows no statements'
 

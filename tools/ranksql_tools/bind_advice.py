@@ -2,7 +2,7 @@
 
 import difflib
 
-from ranksql_tools.script_parse import Explain, Index, Predicate, Select, Table
+from ranksql_tools.script_parse import Explain, Index, Insert, Predicate, Select, Table
 
 FUNCTIONS = ("COUNT", "SUM", "AVG", "ABS", "MIN", "MAX", "RANDOM", "RAND", "LENGTH", "LOWER", "UPPER", "ROUND", "COALESCE")
 NUMBER, TEXT, CONDITION = "a number", "a text", "a condition"
@@ -84,6 +84,8 @@ def limit(names, token, place):
         if statement.cost and statement.cost.start == place:
             return "COST is from 0 to 65,535. It is what a call costs where reading a row of a table costs 1."
         return "A predicate has 8 parameters at most. Compute a part of the formula in the file, as a column of its own."
+    if isinstance(statement, Insert):
+        return "A table has 131,072 rows at most: those of its file, and those that were put in. This row and those behind it are too many."
     if isinstance(statement, Table):
         return "A table has 64 columns at most. Keep those that the queries need; the helper `prepare` writes a file of the columns that you name."
     if isinstance(select, Select):
@@ -256,6 +258,8 @@ def ambiguous(names, token, place):
 
 
 def wrong_count(names, token, place):
+    if isinstance(names.statement, Insert):
+        return wrong_cells(names, place)
     call = call_at(names, place)
     if call is None:
         return None
@@ -263,6 +267,21 @@ def wrong_count(names, token, place):
     made = names.predicates[name.says]
     wanted = ", ".join(f"{column[0].text} {column[1]}" for column in made.columns)
     return f"{name.says} has {len(made.columns)} parameter{'s' if len(made.columns) != 1 else ''} ({wanted}), and {len(given)} {'are' if len(given) != 1 else 'is'} given. Give one argument for each."
+
+
+def wrong_cells(names, place):
+    """A row of an INSERT that has too many or too few values."""
+    insert = names.statement
+    row = next((row for row in insert.rows if row.start == place), None)
+    table = names.tables.get(insert.table.says)
+    if row is None or table is None:
+        return None
+    wanted = ", ".join(f"{column[0].text} {column[1]}" for column in table.columns)
+    count = len(row.cells)
+    return (
+        f"{insert.table.says} has {len(table.columns)} column{'s' if len(table.columns) != 1 else ''} ({wanted}), and this row has {count}"
+        f" value{'s' if count != 1 else ''}. A row has a value for each column."
+    )
 
 
 def call_at(names, place):
@@ -333,6 +352,8 @@ def wrong_kind(names, token, place):
         return kind_of_expression(statement.formula, {column[0].says: column[1] for column in statement.columns}, place, True)
     if isinstance(statement, Index):
         return kind_of_argument(names, statement.predicate, statement.args, place)
+    if isinstance(statement, Insert):
+        return kind_of_cell(names, place)
     if not isinstance(names.select, Select):
         return None
     for term in names.select.terms:
@@ -360,6 +381,21 @@ def kind_of_argument(names, predicate, args, place):
             wanted = "a number" if column[1] == "INT" else "a text"
             other = "a text" if column[1] == "INT" else "a number"
             return f"The parameter {column[0].says} of {predicate.says} is {wanted}, and this argument is {other}."
+    return None
+
+
+def kind_of_cell(names, place):
+    insert = names.statement
+    table = names.tables.get(insert.table.says)
+    for row in insert.rows if table else []:
+        for cell, column in zip(row.cells, table.columns):
+            if cell.start != place:
+                continue
+            if column[1] == "TEXT":
+                return f"The column {column[0].says} of {insert.table.says} is a text. Write this number between single quotes, or make the column an INT in CREATE TABLE."
+            if cell.says.lstrip("+-").isdigit():
+                return f"The column {column[0].says} of {insert.table.says} is a number. Leave the quotes out: {cell.says}."
+            return f"The column {column[0].says} of {insert.table.says} is a number, and this is a text."
     return None
 
 

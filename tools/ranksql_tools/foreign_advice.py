@@ -16,6 +16,8 @@ def foreign_word(place, word=None):
         return join(place, word)
     if word in ("IS", "NULL") and place.inside("columns"):
         return "A column has a name and a kind, and nothing else. There is no NULL: each cell has a value."
+    if word == "NULL" and place.within("cells"):
+        return "There is no NULL: each cell has a value. Choose one that means \"missing\", such as -1 or ''."
     is_table = place.inside("from") and (before.is_word("FROM", "AS") or before.is_symbol(","))
     if is_table or before.is_symbol(".") or place.inside("columns", "parameters", "operand", "items", "args", "dot", "table", "predicate", "index") and word not in (
         "ASC", "IN", "BETWEEN", "LIKE", "IS", "EXISTS", "NULL"
@@ -178,7 +180,7 @@ def offset(place):
 
 def unchanged(place):
     if place.inside("statement", "create"):
-        return "A table is its file, and rows are neither put in, changed nor deleted. Change the file, and run the script again."
+        return "Rows are put in by INSERT, and are neither changed nor deleted. Change the file of the table, and run the script again."
     return "This word isn't there: a script only reads files."
 
 
@@ -206,6 +208,6 @@ def joined_here(place):
 
 SAYS = {
     "ASC": ascending, "BETWEEN": between, "IN": membership, "LIKE": pattern, "IS": null, "NULL": null, "GROUP": grouped, "HAVING": grouped,
-    "OFFSET": offset, "INSERT": unchanged, "UPDATE": unchanged, "DELETE": unchanged, "DROP": dropped, "EXISTS": exists, "WITH": common,
+    "OFFSET": offset, "UPDATE": unchanged, "DELETE": unchanged, "DROP": dropped, "EXISTS": exists, "WITH": common,
     **{word: joined_here for word in JOINS},
 }

@@ -5,7 +5,7 @@ import difflib
 from ranksql_tools.foreign_advice import foreign_word, join, quoted_name
 from ranksql_tools.script_parse import COMPARISONS, FOREIGN, RESERVED
 
-STATEMENTS = ("CREATE", "SELECT", "EXPLAIN", "DECLARE", "FETCH", "CLOSE")
+STATEMENTS = ("CREATE", "SELECT", "EXPLAIN", "DECLARE", "FETCH", "CLOSE", "INSERT")
 BYTES = {
     "#": "A comment begins with `--`, not with `#`.",
     "`": "A name that isn't a plain word stands between double quotes, as in \"my column\", not between backticks.",
@@ -159,13 +159,15 @@ def of_byte(sign, body, place):
 def of_parse(place, variant):
     """What to do where the parse stops."""
     if variant == "TooDeep":
+        if place.within("insert"):
+            return "An INSERT has 256 open brackets and `-` at most, so 256 rows at most. Write several, each with some of the rows."
         return (
             "The statement has more than 256 operators and open brackets. Compute a part of it in the file of the table, as a column"
             " of its own."
         )
     if variant == "TooManyStatements":
         return "A script has 1,000 statements at most. Split it into several scripts."
-    for rule in (signs, numbers, statements, creations, queries, orders, expressions, names, misspelt):
+    for rule in (signs, numbers, statements, creations, inserts, queries, orders, expressions, names, misspelt):
         says = rule(place)
         if says:
             return says
@@ -243,7 +245,7 @@ def statements(place):
     close = closest(word, STATEMENTS)
     if close:
         return f"Did you mean {close}?"
-    return "A statement begins with CREATE, SELECT, EXPLAIN, DECLARE, FETCH or CLOSE."
+    return "A statement begins with CREATE, INSERT, SELECT, EXPLAIN, DECLARE, FETCH or CLOSE."
 
 
 def behind_statement(place):
@@ -369,6 +371,51 @@ def indexes(place):
     if token.is_word("DESC", "ASC"):
         return "A rank index always has the greatest score first. Leave this word out."
     return arguments(place)
+
+
+def inserts(place):
+    """INSERT, and its rows."""
+    token, before, word = place.token, place.near(-1), place.token.text.upper()
+    if not place.within("insert", "rows"):
+        return None
+    if "INTO" in place.expected:
+        return "Write INSERT INTO, and then the name of the table: INSERT INTO hotels VALUES ('The Old Mill', 'Bath', 95, 71)."
+    if place.inside("values"):
+        if token.is_symbol("("):
+            return "Leave the list of columns out: a row has a value for each column of the table, in their order."
+        if token.is_word("SELECT") or word == "DEFAULT":
+            return "The rows of an INSERT are written behind VALUES, each with a value for each column of the table."
+        return "Behind the name of the table stands VALUES, and then the rows: INSERT INTO hotels VALUES ('The Old Mill', 'Bath', 95, 71)."
+    if place.within("cells"):
+        return cells(place)
+    if place.inside("rows"):
+        if token.is_symbol("("):
+            return "Between two rows stands a `,`."
+        if "(" in place.expected:
+            return "Each row stands between brackets: VALUES ('The Old Mill', 'Bath', 95, 71), ('Hostel Nine', 'York', 30, 80)."
+        if word in ("ON", "RETURNING"):
+            return "Behind the last row an INSERT ends. There are no keys, and nothing is printed."
+    return None
+
+
+def cells(place):
+    """The values of a row."""
+    token, before = place.token, place.near(-1)
+    if token.is_symbol(")"):
+        return "Behind the last value there is no `,`." if before.is_symbol(",") else "A row has a value for each column of its table."
+    if token.sort == "end" or token.is_symbol(";"):
+        return "A `)` is missing behind the last value of the row."
+    if token.sort == "quoted":
+        return f"A text stands between single quotes: '{token.says}'."
+    if token.is_symbol("+") and "a number" in place.expected:
+        return "There is no sign `+`. Leave it out."
+    if token.sort in ("number", "literal", "word"):
+        if "," in place.expected:
+            return "Between two values stands a `,`."
+        if token.sort == "word":
+            return f"A value is a number or a text, and a text stands between single quotes: '{token.text}'."
+        return "A `-` stands in front of numbers alone."
+    return "A value is a number or a text, and no expression. Compute it beforehand."
 
 
 # ---- queries

@@ -2,7 +2,7 @@
 
 from typing import NamedTuple, Optional
 
-from .script_parse import Column, Cursor, Index, Predicate, Select, Table, parse
+from .script_parse import Column, Cursor, Index, Insert, Predicate, Select, Table, parse
 from .script_text import line_number, tokens_of
 
 SET_OPERATORS = ("UNION", "INTERSECT", "EXCEPT")
@@ -19,7 +19,7 @@ class Statement(NamedTuple):
 
 class Query(NamedTuple):
     """A query of a script: its number, its line, its cursor if it is one's, how many rows are fetched from that, the SELECT,
-    its tokens, and the CREATE statements in front of it."""
+    its tokens, and the CREATE and INSERT statements in front of it."""
 
     number: int
     line: int
@@ -30,7 +30,7 @@ class Query(NamedTuple):
     creates: list
 
     def creates_of(self, kind):
-        """The statements in front of it that create one kind of thing."""
+        """The statements in front of it that are of one kind, or of several."""
         return [create for create in self.creates if isinstance(create.parsed, kind)]
 
     def table(self, name):
@@ -57,7 +57,7 @@ def read_queries(body):
     queries, creates = [], []
     for place, statement in enumerate(statements):
         parsed = statement.parsed
-        if isinstance(parsed, (Table, Predicate, Index)):
+        if isinstance(parsed, (Table, Predicate, Index, Insert)):
             creates.append(statement)
             continue
         select = parsed if isinstance(parsed, Select) else getattr(parsed, "select", None)

@@ -3,15 +3,15 @@
 from typing import NamedTuple
 
 RESERVED = frozenset(
-    "ALL AND AS BY CASE CLOSE CREATE DECLARE DESC DISTINCT ELSE END EXCEPT EXPLAIN FETCH FOR FROM INTERSECT LIMIT"
-    " NOT ON OR ORDER SELECT THEN UNION WHEN WHERE".split()
+    "ALL AND AS BY CASE CLOSE CREATE DECLARE DESC DISTINCT ELSE END EXCEPT EXPLAIN FETCH FOR FROM INSERT INTERSECT"
+    " LIMIT NOT ON OR ORDER SELECT THEN UNION WHEN WHERE".split()
 )
 FOREIGN = frozenset(
-    "ASC BETWEEN DELETE DROP EXISTS FULL GROUP HAVING IN INNER INSERT IS JOIN LEFT LIKE NULL OFFSET OUTER RIGHT"
+    "ASC BETWEEN DELETE DROP EXISTS FULL GROUP HAVING IN INNER IS JOIN LEFT LIKE NULL OFFSET OUTER RIGHT"
     " UPDATE WITH".split()
 )
 # The parts of the grammar that go on as long as something fits, so that a stop right behind them is still a fault in them.
-OPEN = frozenset(("items", "from", "where", "formula", "terms"))
+OPEN = frozenset(("items", "from", "where", "formula", "terms", "rows"))
 COMPARISONS = ("=", "<>", "!=", "<", "<=", ">", ">=")
 
 
@@ -68,6 +68,22 @@ class Index(NamedTuple):
     table: object
     predicate: object
     args: list
+
+
+class Row(NamedTuple):
+    """A row of an INSERT: its first bracket, and the first token of each of its values."""
+
+    token: object
+    cells: list
+
+    @property
+    def start(self):
+        return self.token.start
+
+
+class Insert(NamedTuple):
+    table: object
+    rows: list
 
 
 class Term(NamedTuple):
@@ -201,6 +217,8 @@ class Parser:
             return self.within("declare", self.declare)
         if self.takes("FETCH"):
             return self.within("fetch", self.fetch)
+        if self.takes("INSERT"):
+            return self.within("insert", self.insert)
         self.needs("CLOSE")
         return self.within("close", lambda: Cursor("CLOSE", self.needs_name(), None, None))
 
@@ -218,6 +236,30 @@ class Parser:
         number = self.needs_number()
         self.needs("FROM")
         return Cursor("FETCH", self.needs_name(), number, None)
+
+    def insert(self):
+        self.needs("INTO")
+        table = self.needs_name()
+        self.within("values", self.needs, "VALUES")
+        return Insert(table, self.within("rows", self.list_of, self.row))
+
+    def row(self):
+        token = self.needs("(")
+        cells = self.within("cells", self.list_of, self.cell)
+        self.within("cells", self.needs, ")")
+        return Row(token, cells)
+
+    def cell(self):
+        token = self.token
+        if token.sort == "literal":
+            return self.step()
+        if self.takes("-"):
+            self.needs_number()
+            return token
+        if token.sort == "number":
+            return self.step()
+        self.tried.extend(["a number", "a text"])
+        return self.stop()
 
     def create(self):
         if self.takes("TABLE"):

@@ -6,7 +6,7 @@ import tempfile
 
 from .plans import calls_by_term, read_plan, scanned_terms, shape_of
 from .queries import from_and_where, rows_wanted, sources_of
-from .script_parse import Predicate, Table
+from .script_parse import Insert, Predicate, Table
 from .table_file import name_in_script
 
 # The predicate of a copy that counts rows: each of its scores is 0.
@@ -117,7 +117,7 @@ class Copy:
 def counting_script(body, query, table, rest):
     """A script that counts rows: the tables of a query, and EXPLAIN or EXPLAIN ANALYZE of all combinations of a FROM."""
     kind = table.columns[0][1]
-    tables = [body[create.start:create.end] for create in query.creates_of(Table)]
+    tables = [body[create.start:create.end] for create in query.creates_of((Table, Insert))]
     counts = "CREATE PREDICATE %s (value %s) MAX 1 AS 0" % (COUNTING, kind)
     return b";\n".join(tables + [counts.encode(), rest])
 
@@ -147,7 +147,7 @@ def combinations(runner, body, query, block_number):
 def greatest_score(runner, body, query, table, call):
     """The greatest score that a predicate gives for a row of a table."""
     column = name_in_script(query.table(table).columns[0][0].says)
-    creates = [body[create.start:create.end] for create in query.creates_of((Table, Predicate))]
+    creates = [body[create.start:create.end] for create in query.creates_of((Table, Predicate, Insert))]
     select = "SELECT %s FROM %s ORDER BY %s LIMIT 1" % (column, name_in_script(table), call)
     line = runner.printed(b";\n".join(creates + [select.encode()]), 1)
     return int(line.split(",")[1]) if line else None

@@ -6,10 +6,10 @@ ghost use Rattle.rs_query.specs.WellFormed.{IsQuery};
 ghost use Rattle.rs_syntax.specs.Written.{AreWritten, IsWritten};
 
 use crate::queries::{tell_combinations, tell_plain};
-use crate::show::{show_count, show_index, show_predicate, show_query, show_table};
+use crate::show::{show_count, show_index, show_predicate, show_query, show_rows, show_table};
 use cases_lines::{Fault, count_of, cut_word, number_of, text_of};
 use cases_scripts::{make, statements_of};
-use rs_bind::{bind, bind_count, bind_index, bind_predicate, bind_table};
+use rs_bind::{bind, bind_count, bind_index, bind_insert, bind_predicate, bind_table};
 use rs_catalog::{Catalog, Snapshot};
 use rs_query::Query;
 use rs_syntax::Statement;
@@ -167,6 +167,12 @@ fn show_bound(
         Statement::CreateRankIndex { .. } => {
             let bound = bind_index(alloc, catalog, statement);
             let shown = show_index(told, &bound);
+            drop(bound);
+            shown
+        }
+        Statement::Insert { .. } => {
+            let bound = bind_insert(alloc, catalog, statement);
+            let shown = show_rows(told, &bound);
             drop(bound);
             shown
         }

@@ -6,6 +6,7 @@ use rs_catalog::IndexDef;
 use rs_expr::Predicate;
 use rs_query::{Block, Conjunct, Query, Term};
 use rs_table::Schema;
+use rs_value::{List, Value};
 
 /// Shows the columns of a table.
 pub fn show_table(told: &mut String, bound: &Result<Schema, BindFault>) -> Result<(), Fault> {
@@ -58,6 +59,24 @@ pub fn show_index(told: &mut String, bound: &Result<IndexDef, BindFault>) -> Res
         told,
         "index {name}; table {table}; predicate {predicate}; {args:?}"
     )?;
+    Ok(())
+}
+
+/// Shows the rows of an INSERT: the number of their table, and each row.
+pub fn show_rows(
+    told: &mut String,
+    bound: &Result<(u8, Vec<List<Value>>), BindFault>,
+) -> Result<(), Fault> {
+    let (table, rows) = match bound {
+        Ok((table, rows)) => (*table, rows),
+        Err(fault) => return show_refusal(told, *fault),
+    };
+    write!(told, "rows of table {table}")?;
+    for row in rows {
+        let row = row.items();
+        write!(told, "; {row:?}")?;
+    }
+    told.push_str("\n")?;
     Ok(())
 }
 

@@ -1,4 +1,5 @@
 mod WorkedIndexes
+mod WorkedInserts
 mod WorkedNames
 mod WorkedQueries
 pub mod ArgFacts
@@ -13,6 +14,8 @@ pub mod BlockRuleFacts
 pub mod QueryRuleFacts
 pub mod StatementRuleFacts
 pub mod InOrderFacts
+pub mod InsertFacts
+pub mod InsertRuleFacts
 pub mod IndexFacts
 pub mod MaskFacts
 pub mod NameFacts

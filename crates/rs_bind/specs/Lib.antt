@@ -11,4 +11,6 @@ pub mod ArgumentRules
 pub mod BlockRules
 pub mod QueryRules
 pub mod StatementRules
+pub mod Inserts
+pub mod InsertRules
 pub mod Where

@@ -54,7 +54,12 @@ pub fn bind_index(
 }
 
 /// The number of a table, a predicate or an index by its name, or this fault at the name.
-fn number_of(catalog: &Catalog, what: What, name: &Name, why: Why) -> Result<u8, BindFault>
+pub(crate) fn number_of(
+    catalog: &Catalog,
+    what: What,
+    name: &Name,
+    why: Why,
+) -> Result<u8, BindFault>
     ensures value { result ≡ or_fault (BindFault.At why name.now.at) (number_named what name.now.text catalog.now) }
     ensures within { IfOk result (λ number. number < length (names_of what catalog.now)) }
 {

@@ -8,11 +8,13 @@ ghost use Rattle.rs_catalog.specs.declared.index.IndexDef.{IndexDef};
 ghost use Rattle.rs_expr.specs.Formulas.{Condition};
 ghost use Rattle.rs_expr.specs.Predicates.{PredicateDef};
 ghost use Rattle.rs_lex.specs.declared.token.Span.{Span as Place};
-ghost use Rattle.rs_syntax.specs.Syntax.{Block as BlockSelect, CreatePredicate, CreateRankIndex, Expression, Query as Select};
+ghost use Rattle.rs_syntax.specs.Syntax.{Block as BlockSelect, CreatePredicate, CreateRankIndex, Expression, Insert, Query as Select};
 ghost use Rattle.rs_syntax.specs.declared.name.Arg.{Arg};
 ghost use Rattle.rs_syntax.specs.declared.name.Name.{Name};
+ghost use Rattle.rs_syntax.specs.declared.row.RowSyn.{RowSyn};
 ghost use Rattle.rs_table.specs.Column.{Column};
 ghost use Rattle.rs_value.specs.declared.kind.Kind.{Kind as ValueKind};
+ghost use Rattle.rs_value.specs.declared.value.Value.{Value};
 ghost use Rattle.rs_query.specs.declared.query.Query.{Query};
 ghost use Rattle.rs_query.specs.declared.term.Term.{Term as BoundTerm};
 ghost use Rattle.rs_typing.specs.References.{references_of};
@@ -25,6 +27,8 @@ ghost use Rattle.rs_bind.specs.ArgumentRules.{IsOutside, IsWithin};
 ghost use Rattle.rs_bind.specs.BlockRules.{TypesBlock};
 ghost use Rattle.rs_bind.specs.Conditions.{named_columns, places_in};
 ghost use Rattle.rs_bind.specs.Indexes.{index_def_of};
+ghost use Rattle.rs_bind.specs.InsertRules.{RefusedInsert, TypesInsert};
+ghost use Rattle.rs_bind.specs.Inserts.{insert_of};
 ghost use Rattle.rs_bind.specs.Names.{columns_of, most_columns};
 ghost use Rattle.rs_bind.specs.Predicates.{predicate_of};
 ghost use Rattle.rs_bind.specs.Queries.{Unranked as UnrankedBlock, bound_query, count_of, most_rows, with_terms};
@@ -60,7 +64,7 @@ pub fn queries_are_typed_by_rules()
 {}
 
 /// The same of the other statements that are bound: the columns of a CREATE TABLE, a CREATE PREDICATE, a CREATE RANK INDEX,
-/// and the number in FETCH.
+/// an INSERT, and the number in FETCH.
 pub fn statements_are_typed_by_rules()
     ensures table { (columns : List (Name × ValueKind)) (made : List Column) → (columns_of columns ≡ Ok made) ↔ TypesNames most_columns columns made }
     ensures no_table { (columns : List (Name × ValueKind)) (fault : BindFault) → (columns_of columns ≡ Err fault) ↔ RefusedNames most_columns columns fault }
@@ -72,6 +76,10 @@ pub fn statements_are_typed_by_rules()
         → (index_def_of catalogue (CreateRankIndex name table predicate args at) ≡ Ok made) ↔ TypesIndex catalogue name table predicate args made }
     ensures no_index { (catalogue : CatalogDef) (name table predicate : Name) (args : List Arg) (at : Place) (fault : BindFault)
         → (index_def_of catalogue (CreateRankIndex name table predicate args at) ≡ Err fault) ↔ RefusedIndex catalogue table predicate args at fault }
+    ensures insert { (catalogue : CatalogDef) (table : Name) (rows : List RowSyn) (made : ℕ × List (List Value))
+        → (insert_of catalogue (Insert table rows) ≡ Ok made) ↔ TypesInsert catalogue table rows made }
+    ensures no_insert { (catalogue : CatalogDef) (table : Name) (rows : List RowSyn) (fault : BindFault)
+        → (insert_of catalogue (Insert table rows) ≡ Err fault) ↔ RefusedInsert catalogue table rows fault }
     ensures count { (count : ℤ × Place) (made : ℕ) → (count_of count ≡ Ok made) ↔ IsWithin 0 most_rows count.0 made }
     ensures no_count { (count : ℤ × Place) (fault : BindFault)
         → (count_of count ≡ Err fault) ↔ (IsOutside 0 most_rows count.0 × (At LimitOf count.1 ≡ fault)) }

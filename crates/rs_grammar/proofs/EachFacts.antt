@@ -1,10 +1,10 @@
 -- Wherever a reader stands, it reads a script, or it can't go on.
-use Rattle.std.proofs.Common.{ℕ, zero, suc, ◌≡◌, ◌+◌, ◌<◌, ◌≤◌, ◌⊎◌, inl, inr, Bool, true, false, ◌&&◌, List, [], ◌∷◌, ◌++◌, length, refl, arith, ap, if◌then◌else◌, length-append}
+use Rattle.std.proofs.Common.{ℕ, zero, suc, ◌≡◌, ◌<◌, ◌≤◌, ◌⊎◌, inl, inr, Bool, true, false, ◌&&◌, List, [], ◌∷◌, ◌++◌, length, refl, arith, ap, if◌then◌else◌, length-append}
 use Rattle.std.specs.Prelude.{nat_lt}
 use Rattle.std.proofs.lemmas.Bool.{ltb-true}
 use Rattle.rs_grammar.specs.Kinds.{accepts}
 use Rattle.rs_grammar.specs.Grammar.{Rule, Part, One, Empty, Seq, Either, Many, Use, Tree, Leaf, Nothing, Pair, This, That, More, Node, yield, rule, script}
-use Rattle.rs_grammar.specs.Grammar.{statements, statement, create, create_table, create_predicate, create_rank_index, declare, fetch, close, explain, columns, column, select, set_operator, block, items, entries, entry, terms, term, args, arg, colref, expr, conj, neg, comp, sum, prod, sign, base, plain, absolute, extreme, brackets, case, when}
+use Rattle.rs_grammar.specs.Grammar.{statements, statement, create, create_table, create_predicate, create_rank_index, declare, fetch, close, explain, insert, rows, row, cells, cell, columns, column, select, set_operator, block, items, entries, entry, terms, term, args, arg, colref, expr, conj, neg, comp, sum, prod, sign, base, plain, absolute, extreme, brackets, case, when}
 use Rattle.rs_grammar.specs.Reading.{State, Read, Fails, Cause, Expected, TooDeep, follow, nullable, starts, opens, left_behind, is_too_deep}
 use Rattle.rs_grammar.specs.Reading as reading
 use Rattle.rs_grammar.specs.declared.kind.TokenKind.{TokenKind}
@@ -30,6 +30,11 @@ level declare = 0
 level fetch = 0
 level close = 0
 level explain = 0
+level insert = 0
+level rows = 1
+level row = 0
+level cells = 1
+level cell = 0
 level columns = 1
 level column = 0
 level select = 1
@@ -69,6 +74,11 @@ level-most declare = omega arith
 level-most fetch = omega arith
 level-most close = omega arith
 level-most explain = omega arith
+level-most insert = omega arith
+level-most rows = omega arith
+level-most row = omega arith
+level-most cells = omega arith
+level-most cell = omega arith
 level-most columns = omega arith
 level-most column = omega arith
 level-most select = omega arith
@@ -117,6 +127,11 @@ is_low-rule declare = refl
 is_low-rule fetch = refl
 is_low-rule close = refl
 is_low-rule explain = refl
+is_low-rule insert = refl
+is_low-rule rows = refl
+is_low-rule row = refl
+is_low-rule cells = refl
+is_low-rule cell = refl
 is_low-rule columns = refl
 is_low-rule column = refl
 is_low-rule select = refl

@@ -2,7 +2,7 @@
 use Rattle.std.specs.Prelude.{◌≡◌, ◌&&◌, Bool, true, false, not, List, [], ◌∷◌, ◌++◌, if◌then◌else◌}
 use Rattle.rs_grammar.specs.Kinds.{accepts}
 use Rattle.rs_grammar.specs.Grammar.{Rule, Part, One, Empty, Seq, Either, Many, Use, rule}
-use Rattle.rs_grammar.specs.Grammar.{statements, statement, create, create_table, create_predicate, create_rank_index, declare, fetch, close, explain, columns, column, select, set_operator, block, items, entries, entry, terms, term, args, arg, colref, expr, conj, neg, comp, sum, prod, sign, base, plain, absolute, extreme, brackets, case, when}
+use Rattle.rs_grammar.specs.Grammar.{statements, statement, create, create_table, create_predicate, create_rank_index, declare, fetch, close, explain, insert, rows, row, cells, cell, columns, column, select, set_operator, block, items, entries, entry, terms, term, args, arg, colref, expr, conj, neg, comp, sum, prod, sign, base, plain, absolute, extreme, brackets, case, when}
 use Rattle.std.proofs.Common.{refl}
 use Rattle.rs_grammar.specs.Reading.{starts_of, follow, nullable, starts}
 use Rattle.rs_grammar.specs.declared.kind.TokenKind.{TokenKind}
@@ -90,6 +90,11 @@ is_clear-rule declare = refl
 is_clear-rule fetch = refl
 is_clear-rule close = refl
 is_clear-rule explain = refl
+is_clear-rule insert = refl
+is_clear-rule rows = refl
+is_clear-rule row = refl
+is_clear-rule cells = refl
+is_clear-rule cell = refl
 is_clear-rule columns = refl
 is_clear-rule column = refl
 is_clear-rule select = refl
@@ -134,6 +139,11 @@ starts-rule declare = refl
 starts-rule fetch = refl
 starts-rule close = refl
 starts-rule explain = refl
+starts-rule insert = refl
+starts-rule rows = refl
+starts-rule row = refl
+starts-rule cells = refl
+starts-rule cell = refl
 starts-rule columns = refl
 starts-rule column = refl
 starts-rule select = refl
@@ -174,6 +184,11 @@ nullable-rule declare = refl
 nullable-rule fetch = refl
 nullable-rule close = refl
 nullable-rule explain = refl
+nullable-rule insert = refl
+nullable-rule rows = refl
+nullable-rule row = refl
+nullable-rule cells = refl
+nullable-rule cell = refl
 nullable-rule columns = refl
 nullable-rule column = refl
 nullable-rule select = refl

@@ -5,7 +5,7 @@ use Rattle.rs_lex.specs.Spelling.{token_at}
 use Rattle.rs_lex.specs.declared.token.Sort.TheVariants as sort
 use Rattle.rs_grammar.specs.Lexemes.{words, symbols, token_kind, undoubled, lexeme_of}
 use Rattle.rs_grammar.specs.declared.kind.TokenKind.{TokenKind}
-use Rattle.rs_grammar.specs.declared.kind.TokenKind.TheVariants.{Foreign, Select, From, Order, By, Rank, Integer, Analyze, Name, Number, Literal, OpenBracket, CloseBracket, Semicolon, Star, NotEqual, Less, LessEqual, Greater}
+use Rattle.rs_grammar.specs.declared.kind.TokenKind.TheVariants.{Foreign, Insert, Select, From, Order, By, Rank, Integer, Analyze, Into, Values, Name, Number, Literal, OpenBracket, CloseBracket, Semicolon, Star, NotEqual, Less, LessEqual, Greater}
 use Rattle.rs_grammar.specs.declared.lexeme.Lexeme.{Lexeme}
 
 -- a token that says nothing, and a name
@@ -34,6 +34,12 @@ keyword : map (lexeme_of (codes "rank Integer ANALYZE")) (token_at 0 sort.Word 4
     ≡ name Rank (codes "rank") 0 4 ∷ name Integer (codes "Integer") 5 12 ∷ name Analyze (codes "ANALYZE") 13 20 ∷ []
 unfolding words
 keyword = refl
+
+-- INSERT is reserved, INTO and VALUES are keywords
+insert : map (lexeme_of (codes "insert Into VALUES")) (token_at 0 sort.Word 6 ∷ token_at 7 sort.Word 4 ∷ token_at 12 sort.Word 6 ∷ [])
+    ≡ mark Insert 0 6 ∷ name Into (codes "Into") 7 11 ∷ name Values (codes "VALUES") 12 18 ∷ []
+unfolding words
+insert = refl
 
 -- a word that only begins or ends with a reserved one is a name
 longer_words : map (token_kind sort.Word) (codes "selected" ∷ codes "_select" ∷ codes "selec" ∷ codes "r_nk" ∷ []) ≡ Name ∷ Name ∷ Name ∷ Name ∷ []

@@ -2,12 +2,12 @@
 use Rattle.std.specs.Prelude.{ℕ, ◌≡◌, true, List, [], ◌∷◌, ◌++◌}
 use Rattle.rs_grammar.specs.Kinds.{accepts, names, plain_names, comparisons}
 use Rattle.rs_grammar.specs.declared.kind.TokenKind.{TokenKind}
-use Rattle.rs_grammar.specs.declared.kind.TokenKind.TheVariants.{All, And, As, By, Case, Close, Create, Declare, Desc, Distinct, Else, End, Except, Explain, Fetch, For, From, Intersect, Limit, Not, On, Or, Order, Select, Then, Union, When, Where, Table, Predicate, Rank, Index, Int, Integer, Text, Max, Min, Abs, Cost, Cursor, Analyze, Number, Literal, OpenBracket, CloseBracket, Comma, Semicolon, Dot, Plus, Minus, Star, Slash}
+use Rattle.rs_grammar.specs.declared.kind.TokenKind.TheVariants.{All, And, As, By, Case, Close, Create, Declare, Desc, Distinct, Else, End, Except, Explain, Fetch, For, From, Insert, Intersect, Limit, Not, On, Or, Order, Select, Then, Union, When, Where, Table, Predicate, Rank, Index, Int, Integer, Text, Max, Min, Abs, Cost, Cursor, Analyze, Into, Values, Number, Literal, OpenBracket, CloseBracket, Comma, Semicolon, Dot, Plus, Minus, Star, Slash}
 use Rattle.rs_grammar.specs.declared.lexeme.Lexeme.{Lexeme}
 
 -- the rules
 pub data Rule : Type 0 where
-  statements statement create create_table create_predicate create_rank_index declare fetch close explain columns column select set_operator block items entries entry terms term args arg colref expr conj neg comp sum prod sign base plain absolute extreme brackets case when : Rule
+  statements statement create create_table create_predicate create_rank_index declare fetch close explain insert rows row cells cell columns column select set_operator block items entries entry terms term args arg colref expr conj neg comp sum prod sign base plain absolute extreme brackets case when : Rule
 
 -- a part of a rule: one token of one of these kinds, nothing, one part and another behind it, one of two, any number of one, or a rule
 pub data Part : Type 0 where
@@ -41,8 +41,8 @@ optional p = Either p Empty
 abbrev pub rule : Rule → Part
 -- statement [ ";" [ statements ] ]: with `script`, what `{ statement ";" } [ statement ]` spells
 rule statements = Use statement ⨟ optional (word Semicolon ⨟ optional (Use statements))
--- create | select | declare | fetch | close | explain
-rule statement = Use create ∣ Use select ∣ Use declare ∣ Use fetch ∣ Use close ∣ Use explain
+-- create | select | declare | fetch | close | explain | insert
+rule statement = Use create ∣ Use select ∣ Use declare ∣ Use fetch ∣ Use close ∣ Use explain ∣ Use insert
 -- CREATE ( create_table | create_predicate | create_rank_index )
 rule create = word Create ⨟ (Use create_table ∣ Use create_predicate ∣ Use create_rank_index)
 -- TABLE name "(" columns ")" FROM literal
@@ -59,6 +59,16 @@ rule fetch = word Fetch ⨟ word Number ⨟ word From ⨟ name
 rule close = word Close ⨟ name
 -- EXPLAIN [ ANALYZE ] select
 rule explain = word Explain ⨟ optional (word Analyze) ⨟ Use select
+-- INSERT INTO name VALUES rows
+rule insert = word Insert ⨟ word Into ⨟ name ⨟ word Values ⨟ Use rows
+-- row { "," row }
+rule rows = Use row ⨟ Many (word Comma ⨟ Use row)
+-- "(" cells ")"
+rule row = word OpenBracket ⨟ Use cells ⨟ word CloseBracket
+-- cell { "," cell }
+rule cells = Use cell ⨟ Many (word Comma ⨟ Use cell)
+-- [ "-" ] number | literal
+rule cell = (optional (word Minus) ⨟ word Number) ∣ word Literal
 -- column { "," column }
 rule columns = Use column ⨟ Many (word Comma ⨟ Use column)
 -- name ( INT | INTEGER | TEXT )

@@ -26,19 +26,19 @@ words =
     ∷ (codes "CLOSE", kind.Close) ∷ (codes "CREATE", kind.Create) ∷ (codes "DECLARE", kind.Declare) ∷ (codes "DESC", kind.Desc)
     ∷ (codes "DISTINCT", kind.Distinct) ∷ (codes "ELSE", kind.Else) ∷ (codes "END", kind.End) ∷ (codes "EXCEPT", kind.Except)
     ∷ (codes "EXPLAIN", kind.Explain) ∷ (codes "FETCH", kind.Fetch) ∷ (codes "FOR", kind.For) ∷ (codes "FROM", kind.From)
-    ∷ (codes "INTERSECT", kind.Intersect) ∷ (codes "LIMIT", kind.Limit) ∷ (codes "NOT", kind.Not) ∷ (codes "ON", kind.On)
+    ∷ (codes "INSERT", kind.Insert) ∷ (codes "INTERSECT", kind.Intersect) ∷ (codes "LIMIT", kind.Limit) ∷ (codes "NOT", kind.Not) ∷ (codes "ON", kind.On)
     ∷ (codes "OR", kind.Or) ∷ (codes "ORDER", kind.Order) ∷ (codes "SELECT", kind.Select) ∷ (codes "THEN", kind.Then)
     ∷ (codes "UNION", kind.Union) ∷ (codes "WHEN", kind.When) ∷ (codes "WHERE", kind.Where)
     ∷ (codes "ASC", kind.Foreign) ∷ (codes "BETWEEN", kind.Foreign) ∷ (codes "DELETE", kind.Foreign) ∷ (codes "DROP", kind.Foreign)
     ∷ (codes "EXISTS", kind.Foreign) ∷ (codes "FULL", kind.Foreign) ∷ (codes "GROUP", kind.Foreign) ∷ (codes "HAVING", kind.Foreign)
-    ∷ (codes "IN", kind.Foreign) ∷ (codes "INNER", kind.Foreign) ∷ (codes "INSERT", kind.Foreign) ∷ (codes "IS", kind.Foreign)
+    ∷ (codes "IN", kind.Foreign) ∷ (codes "INNER", kind.Foreign) ∷ (codes "IS", kind.Foreign)
     ∷ (codes "JOIN", kind.Foreign) ∷ (codes "LEFT", kind.Foreign) ∷ (codes "LIKE", kind.Foreign) ∷ (codes "NULL", kind.Foreign)
     ∷ (codes "OFFSET", kind.Foreign) ∷ (codes "OUTER", kind.Foreign) ∷ (codes "RIGHT", kind.Foreign) ∷ (codes "UPDATE", kind.Foreign)
     ∷ (codes "WITH", kind.Foreign)
     ∷ (codes "TABLE", kind.Table) ∷ (codes "PREDICATE", kind.Predicate) ∷ (codes "RANK", kind.Rank) ∷ (codes "INDEX", kind.Index)
     ∷ (codes "INT", kind.Int) ∷ (codes "INTEGER", kind.Integer) ∷ (codes "TEXT", kind.Text) ∷ (codes "MAX", kind.Max)
     ∷ (codes "MIN", kind.Min) ∷ (codes "ABS", kind.Abs) ∷ (codes "COST", kind.Cost) ∷ (codes "CURSOR", kind.Cursor)
-    ∷ (codes "ANALYZE", kind.Analyze) ∷ []
+    ∷ (codes "ANALYZE", kind.Analyze) ∷ (codes "INTO", kind.Into) ∷ (codes "VALUES", kind.Values) ∷ []
 
 -- the symbols; `!=` is read as `<>`
 unfoldable pub symbols : List (List ℕ × TokenKind)

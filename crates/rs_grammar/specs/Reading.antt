@@ -4,15 +4,15 @@ use Rattle.std.specs.Prelude.{ℕ, ◌≡◌, ◌-◌, ◌==◌, ◌&&◌, ◌||
 use Rattle.rs_grammar.specs.Kinds.{accepts, counted_kinds, names, plain_names}
 use Rattle.rs_grammar.specs.Places.{most_deep}
 use Rattle.rs_grammar.specs.Grammar.{Rule, Part, One, Empty, Seq, Either, Many, Use, rule, Tree, Leaf, Nothing, Pair, This, That, More, Node}
-use Rattle.rs_grammar.specs.Grammar.{statements, statement, create, create_table, create_predicate, create_rank_index, declare, fetch, close, explain, columns, column, select, set_operator, block, items, entries, entry, terms, term, args, arg, colref, expr, conj, neg, comp, sum, prod, sign, base, plain, absolute, extreme, brackets, case, when}
+use Rattle.rs_grammar.specs.Grammar.{statements, statement, create, create_table, create_predicate, create_rank_index, declare, fetch, close, explain, insert, rows, row, cells, cell, columns, column, select, set_operator, block, items, entries, entry, terms, term, args, arg, colref, expr, conj, neg, comp, sum, prod, sign, base, plain, absolute, extreme, brackets, case, when}
 use Rattle.rs_grammar.specs.declared.kind.TokenKind.{TokenKind}
-use Rattle.rs_grammar.specs.declared.kind.TokenKind.TheVariants.{And, Case, Close, Create, Declare, Desc, Else, End, Except, Explain, Fetch, From, Intersect, Limit, Not, Or, Order, Select, Then, Union, When, Where, Table, Predicate, Rank, Max, Min, Abs, Number, Literal, OpenBracket, CloseBracket, Comma, Semicolon, Plus, Minus, Star, Slash, Equal, NotEqual, Less, LessEqual, Greater, GreaterEqual}
+use Rattle.rs_grammar.specs.declared.kind.TokenKind.TheVariants.{And, Case, Close, Create, Declare, Desc, Else, End, Except, Explain, Fetch, From, Insert, Intersect, Limit, Not, Or, Order, Select, Then, Union, When, Where, Table, Predicate, Rank, Max, Min, Abs, Number, Literal, OpenBracket, CloseBracket, Comma, Semicolon, Plus, Minus, Star, Slash, Equal, NotEqual, Less, LessEqual, Greater, GreaterEqual}
 use Rattle.rs_grammar.specs.declared.lexeme.Lexeme.{Lexeme}
 
 -- the kinds that a rule can begin with
 abbrev pub starts_of : Rule → List TokenKind
-starts_of statements = Close ∷ Create ∷ Declare ∷ Explain ∷ Fetch ∷ Select ∷ []
-starts_of statement = Close ∷ Create ∷ Declare ∷ Explain ∷ Fetch ∷ Select ∷ []
+starts_of statements = Close ∷ Create ∷ Declare ∷ Explain ∷ Fetch ∷ Insert ∷ Select ∷ []
+starts_of statement = Close ∷ Create ∷ Declare ∷ Explain ∷ Fetch ∷ Insert ∷ Select ∷ []
 starts_of create = Create ∷ []
 starts_of create_table = Table ∷ []
 starts_of create_predicate = Predicate ∷ []
@@ -21,6 +21,11 @@ starts_of declare = Declare ∷ []
 starts_of fetch = Fetch ∷ []
 starts_of close = Close ∷ []
 starts_of explain = Explain ∷ []
+starts_of insert = Insert ∷ []
+starts_of rows = OpenBracket ∷ []
+starts_of row = OpenBracket ∷ []
+starts_of cells = Number ∷ Literal ∷ Minus ∷ []
+starts_of cell = Number ∷ Literal ∷ Minus ∷ []
 starts_of columns = names
 starts_of column = names
 starts_of select = Select ∷ []
@@ -61,6 +66,11 @@ follow declare = Semicolon ∷ []
 follow fetch = Semicolon ∷ []
 follow close = Semicolon ∷ []
 follow explain = Semicolon ∷ []
+follow insert = Semicolon ∷ []
+follow rows = Semicolon ∷ []
+follow row = Comma ∷ Semicolon ∷ []
+follow cells = CloseBracket ∷ []
+follow cell = CloseBracket ∷ Comma ∷ []
 follow columns = CloseBracket ∷ []
 follow column = CloseBracket ∷ Comma ∷ []
 follow select = Semicolon ∷ []

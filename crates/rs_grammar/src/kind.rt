@@ -18,6 +18,7 @@ pub enum TokenKind {
     Fetch,
     For,
     From,
+    Insert,
     Intersect,
     Limit,
     Not,
@@ -43,6 +44,8 @@ pub enum TokenKind {
     Cost,
     Cursor,
     Analyze,
+    Into,
+    Values,
     Name,
     Number,
     Literal,
@@ -112,6 +115,8 @@ impl TokenKind {
                 | TokenKind::Cost
                 | TokenKind::Cursor
                 | TokenKind::Analyze
+                | TokenKind::Into
+                | TokenKind::Values
                 | TokenKind::Name
         )
     }
@@ -132,6 +137,8 @@ impl TokenKind {
                 | TokenKind::Cost
                 | TokenKind::Cursor
                 | TokenKind::Analyze
+                | TokenKind::Into
+                | TokenKind::Values
                 | TokenKind::Name
         )
     }

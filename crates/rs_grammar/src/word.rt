@@ -5,7 +5,7 @@ ghost use Rattle.rs_grammar.specs.Lexemes.{kind_in, words, symbols};
 use crate::kind::TokenKind;
 
 /// The words that mean something, in capitals.
-const WORDS: [(&[u8], TokenKind); 62] = [
+const WORDS: [(&[u8], TokenKind); 64] = [
     (b"ALL", TokenKind::All),
     (b"AND", TokenKind::And),
     (b"AS", TokenKind::As),
@@ -23,6 +23,7 @@ const WORDS: [(&[u8], TokenKind); 62] = [
     (b"FETCH", TokenKind::Fetch),
     (b"FOR", TokenKind::For),
     (b"FROM", TokenKind::From),
+    (b"INSERT", TokenKind::Insert),
     (b"INTERSECT", TokenKind::Intersect),
     (b"LIMIT", TokenKind::Limit),
     (b"NOT", TokenKind::Not),
@@ -44,7 +45,6 @@ const WORDS: [(&[u8], TokenKind); 62] = [
     (b"HAVING", TokenKind::Foreign),
     (b"IN", TokenKind::Foreign),
     (b"INNER", TokenKind::Foreign),
-    (b"INSERT", TokenKind::Foreign),
     (b"IS", TokenKind::Foreign),
     (b"JOIN", TokenKind::Foreign),
     (b"LEFT", TokenKind::Foreign),
@@ -68,6 +68,8 @@ const WORDS: [(&[u8], TokenKind); 62] = [
     (b"COST", TokenKind::Cost),
     (b"CURSOR", TokenKind::Cursor),
     (b"ANALYZE", TokenKind::Analyze),
+    (b"INTO", TokenKind::Into),
+    (b"VALUES", TokenKind::Values),
 ];
 
 const SYMBOLS: [(&[u8], TokenKind); 16] = [

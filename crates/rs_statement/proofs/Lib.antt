@@ -1,10 +1,12 @@
 mod WorkedLines
 mod WorkedStatements
+mod WorkedInserts
 mod WorkedSession
 mod LineFacts
 mod PrintFacts
 pub mod StepFacts
 mod IndexSteps
+mod InsertSteps
 mod QuerySteps
 mod SampleSteps
 mod PlanSteps

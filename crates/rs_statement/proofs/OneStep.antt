@@ -2,7 +2,7 @@
 use Rattle.std.proofs.Common.{ℕ, ◌≡◌, ◌∙◌, List, [], ◌∷◌, sym, ap, subst}
 use Rattle.std.specs.Prelude.{Option, Some, Result, Ok, Err}
 use Rattle.rs_outside.specs.Files.{FilesTold}
-use Rattle.rs_syntax.specs.Syntax.{Command, CreateTable, CreatePredicate, CreateRankIndex, Ask, Declare, Close, Explain, ExplainAnalyze}
+use Rattle.rs_syntax.specs.Syntax.{Command, CreateTable, CreatePredicate, CreateRankIndex, Ask, Declare, Close, Explain, ExplainAnalyze, Insert}
 use Rattle.rs_syntax.specs.Syntax as syntax
 use Rattle.rs_syntax.specs.declared.name.Name.{Name}
 use Rattle.rs_table.specs.Column.{Column}
@@ -36,6 +36,7 @@ Does-one finds one answer evaluating catalogue (syntax.Fetch count name) a b p q
 Does-one finds one answer evaluating catalogue (Close name) a b p q = absurd p
 Does-one finds one answer evaluating catalogue (Explain query) a b p q = p ∙ sym q
 Does-one finds one answer evaluating catalogue (ExplainAnalyze query) a b p q = p ∙ sym q
+Does-one finds one answer evaluating catalogue (Insert table rows) a b p q = p ∙ sym q
 
 pub DoesInSession-one : (finds : Finds) → OneFile finds → (answer : Answering) (evaluating : Evaluating) (state : State) (command : Command) (a b : Step State)
     → DoesInSession finds answer evaluating state command a → DoesInSession finds answer evaluating state command b → a ≡ b
@@ -54,6 +55,7 @@ DoesInSession-one finds one answer evaluating state command a b p q = go command
   go (Ask query) p q = same (Ask query) p.0 q.0 p.1 q.1 p.2 q.2
   go (Explain query) p q = same (Explain query) p.0 q.0 p.1 q.1 p.2 q.2
   go (ExplainAnalyze query) p q = same (ExplainAnalyze query) p.0 q.0 p.1 q.1 p.2 q.2
+  go (Insert table rows) p q = same (Insert table rows) p.0 q.0 p.1 q.1 p.2 q.2
 
 -- the statements of a script have one run at most
 abbrev pub OneRun : (List Command → Run → Type 0) → Type 0

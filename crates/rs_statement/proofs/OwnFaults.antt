@@ -1,5 +1,5 @@
 -- The faults that the statements of a script can end with: never that a put failed or a call of the scorer.
-use Rattle.std.proofs.Common.{ℕ, ℤ, ◌≡◌, ◌+◌, List, [], ◌∷◌, Some, None, Bool, true, false, refl, sym, subst, length, if◌then◌else◌}
+use Rattle.std.proofs.Common.{ℕ, ℤ, ◌≡◌, ◌+◌, ◌==◌, List, [], ◌∷◌, Some, None, Bool, true, false, refl, sym, subst, length, if◌then◌else◌}
 use Rattle.std.specs.Prelude.{zero, suc, Option, Result, Ok, Err}
 use Rattle.std.specs.Str.{bytes_eq}
 use Rattle.rs_lex.specs.declared.token.Span.{Span}
@@ -11,13 +11,19 @@ use Rattle.rs_value.specs.Results.{◌>>=◌}
 use Rattle.rs_table.specs.Reading.{table_of}
 use Rattle.rs_table.specs.declared.fault.TableFault.{TableFault}
 use Rattle.rs_rank.specs.declared.scored_row.ScoredRow.{ScoredRow}
-use Rattle.rs_expr.specs.Scores.{is_score}
+use Rattle.rs_expr.specs.InOrder.{Inquiry, and_then}
+use Rattle.rs_expr.specs.Predicates.{PredicateDef}
+use Rattle.rs_expr.specs.Scores.{as_score, is_score}
 use Rattle.rs_syntax.specs.Syntax.{Command, CreateTable, CreatePredicate, CreateRankIndex, Explain, ExplainAnalyze}
 use Rattle.rs_syntax.specs.Syntax as syntax
 use Rattle.rs_syntax.specs.declared.name.Name.{Name}
-use Rattle.rs_catalog.specs.Catalog.{CatalogDef, room_for, with_index, with_predicate, with_table}
+use Rattle.rs_catalog.specs.Catalog.{CatalogDef, RankIndex, room_for, with_index, with_predicate, with_table}
+use Rattle.rs_catalog.specs.Growing.{comes_to, growing, growing_index, in_turn, scoring_new, scorings_new, with_entries}
 use Rattle.rs_catalog.specs.Snapshot.{snapshot}
 use Rattle.rs_catalog.specs.Indexes as indexes
+use Rattle.rs_catalog.specs.declared.growth.GrowFault.{GrowFault}
+use Rattle.rs_catalog.specs.declared.growth.GrowFault.TheVariants as grow
+use Rattle.rs_catalog.specs.declared.index.BoundArg.{BoundArg}
 use Rattle.rs_catalog.specs.declared.index.IndexDef.{IndexDef}
 use Rattle.rs_catalog.specs.declared.index.IndexFault.{IndexFault}
 use Rattle.rs_catalog.specs.declared.index.IndexFault.TheVariants as index
@@ -25,6 +31,7 @@ use Rattle.rs_catalog.specs.declared.room.RoomFault.{RoomFault}
 use Rattle.rs_catalog.specs.declared.room.What.{What}
 use Rattle.rs_catalog.specs.declared.room.What.TheVariants as what
 use Rattle.rs_bind.specs.Indexes.{index_def_of}
+use Rattle.rs_bind.specs.Inserts.{insert_of}
 use Rattle.rs_bind.specs.Names.{columns_of}
 use Rattle.rs_bind.specs.Predicates.{predicate_of}
 use Rattle.rs_bind.specs.Queries.{bound_query, count_of}
@@ -56,6 +63,7 @@ use Rattle.rs_statement.specs.Steps.{Run, Step}
 use Rattle.rs_statement.specs.Planned.{ask_count, ask_outcome, ask_step, asks_from, asks_in_all, next_asks, plan_for, planned_step}
 use Rattle.rs_events.specs.Sequence.{RunOf, RunsOn, silent, still, then_step}
 use Rattle.rs_statement.specs.Faults.{or_index_fault}
+use Rattle.rs_statement.specs.Inserts.{grow_outcome, rows_step}
 use Rattle.rs_statement.specs.declared.evaluating.Evaluating.{Evaluating}
 use Rattle.rs_statement.specs.declared.evaluating.Evaluating.TheVariants.{Planned, Plainly}
 use Rattle.rs_statement.specs.Statements.{Does, DoesTable, analyze_step, analyzed_step, explain_outcome, explain_step, explained_step, index_step, or_bind_fault, or_room_fault, query_outcome, query_step, refused_or, select_step, table_step, with_room}
@@ -265,6 +273,60 @@ unfolding Own
 Own-does_table finds catalogue name file (Err fault) step own does = subst (λ s. Own s.outcome) (sym does) own
 Own-does_table finds catalogue name file (Ok columns) step own does = subst (λ s. Own s.outcome) (sym does.2) (Own-table_step catalogue name file columns does.0)
 
+-- rows join, or a score is none
+OwnGrowth : {A : Type 0} → Result A GrowFault → Type 0
+OwnGrowth (Ok a) = Unit {0}
+OwnGrowth (Err (grow.BadScore index row got max)) = Unit {0}
+OwnGrowth (Err (grow.Probe index)) = ⊥
+OwnGrowth (Err grow.Memory) = Unit {0}
+
+OwnGrowth-then : {A B : Type 0} (first : Inquiry A GrowFault) (next : A → Inquiry B GrowFault) → OwnGrowth first.outcome → ((a : A) → OwnGrowth (next a).outcome)
+    → OwnGrowth (and_then first next).outcome
+unfolding OwnGrowth
+OwnGrowth-then {A} {B} first next own more = go first.outcome own where
+  go : (outcome : Result A GrowFault) → OwnGrowth outcome → OwnGrowth (and_then (record { requests = first.requests; outcome = outcome }) next).outcome
+  go (Ok a) own = more a
+  go (Err (grow.BadScore index row got max)) own = tt
+  go (Err (grow.Probe index)) own = absurd own
+  go (Err grow.Memory) own = tt
+
+OwnGrowth-in_turn : {X A : Type 0} (ask : ℕ → X → Inquiry A GrowFault) → ((n : ℕ) (x : X) → OwnGrowth (ask n x).outcome) → (n : ℕ) (xs : List X) → OwnGrowth (in_turn ask n xs).outcome
+unfolding OwnGrowth
+OwnGrowth-in_turn ask each n [] = tt
+OwnGrowth-in_turn ask each n (x ∷ xs) =
+    OwnGrowth-then (ask n x) (λ a. and_then (in_turn ask (n + 1) xs) (λ others. comes_to (a ∷ others))) (each n x)
+    (λ a. OwnGrowth-then (in_turn ask (n + 1) xs) (λ others. comes_to (a ∷ others)) (OwnGrowth-in_turn ask each (n + 1) xs) (λ others. tt))
+
+OwnGrowth-scored : (answer : Answering) (number : ℕ) (predicate : PredicateDef) (args : List BoundArg) (row : ℕ) (values : List Value) → OwnGrowth (scoring_new answer number predicate args row values).outcome
+unfolding OwnGrowth
+OwnGrowth-scored answer number predicate args row values = go (is_score predicate.max (answer predicate (indexes.args_in args values))) where
+  go : (b : Bool)
+      → OwnGrowth {A = ScoredRow} (if b then Ok (record { score = as_score (answer predicate (indexes.args_in args values)); row = row }) else Err (grow.BadScore number row (answer predicate (indexes.args_in args values)) predicate.max))
+  go true = tt
+  go false = tt
+
+OwnGrowth-index : (answer : Answering) (catalogue : CatalogDef) (table : ℕ) (rows : List (List Value)) (number : ℕ) (index : RankIndex) → OwnGrowth (growing_index answer catalogue table rows number index).outcome
+unfolding OwnGrowth
+OwnGrowth-index answer catalogue table rows number index = go (index.def.table == table) where
+  go : (b : Bool)
+      → OwnGrowth (if b then and_then (scorings_new answer number (indexes.predicate_for catalogue index.def) index.def.args (length (indexes.rows_for catalogue index.def) + 1) rows) (λ entries. comes_to (with_entries entries index)) else comes_to index).outcome
+  go true = OwnGrowth-then (scorings_new answer number (indexes.predicate_for catalogue index.def) index.def.args (length (indexes.rows_for catalogue index.def) + 1) rows) (λ entries. comes_to (with_entries entries index))
+      (OwnGrowth-in_turn (scoring_new answer number (indexes.predicate_for catalogue index.def) index.def.args) (OwnGrowth-scored answer number (indexes.predicate_for catalogue index.def) index.def.args) (length (indexes.rows_for catalogue index.def) + 1) rows)
+      (λ entries. tt)
+  go false = tt
+
+Own-growth : (catalogue : CatalogDef) (table : ℕ) (rows : List (List Value)) (grown : Result (List RankIndex) GrowFault) → OwnGrowth grown → Own (grow_outcome catalogue table rows grown)
+unfolding Own IsOwn OwnGrowth
+Own-growth catalogue table rows (Ok made) own = tt
+Own-growth catalogue table rows (Err (grow.BadScore index row got max)) own = tt
+Own-growth catalogue table rows (Err (grow.Probe index)) own = absurd own
+Own-growth catalogue table rows (Err grow.Memory) own = tt
+
+Own-rows_step : (answer : Answering) (catalogue : CatalogDef) (joining : ℕ × List (List Value)) → Own (rows_step answer catalogue joining).outcome
+unfolding Own
+Own-rows_step answer catalogue joining = Own-growth catalogue joining.0 joining.1 (growing answer catalogue joining.0 joining.1).outcome
+    (OwnGrowth-in_turn (growing_index answer catalogue joining.0 joining.1) (OwnGrowth-index answer catalogue joining.0 joining.1) 0 catalogue.indexes)
+
 Own-step : (finds : Finds) (answer : Answering) (evaluating : Evaluating) (catalogue : CatalogDef) (command : Command) (step : Step CatalogDef) → Does finds answer evaluating catalogue command step → Own step.outcome
 unfolding Own IsOwn
 Own-step finds answer evaluating catalogue (CreateTable name columns file) step does =
@@ -281,6 +343,8 @@ Own-step finds answer evaluating catalogue (syntax.Ask query) step does =
     subst (λ s. Own s.outcome) (sym does) (Own-select evaluating answer catalogue query)
 Own-step finds answer evaluating catalogue (Explain query) step does = subst (λ s. Own s.outcome) (sym does) (Own-explain_step evaluating answer catalogue query)
 Own-step finds answer evaluating catalogue (ExplainAnalyze query) step does = subst (λ s. Own s.outcome) (sym does) (Own-analyze_step evaluating answer catalogue query)
+Own-step finds answer evaluating catalogue (syntax.Insert table rows) step does =
+    subst (λ s. Own s.outcome) (sym does) (Own-refused (rows_step answer catalogue) _ (Own-bind (insert_of catalogue (syntax.Insert table rows))) (Own-rows_step answer catalogue))
 Own-step finds answer evaluating catalogue (syntax.Declare name query) step does = absurd does
 Own-step finds answer evaluating catalogue (syntax.Fetch count name) step does = absurd does
 Own-step finds answer evaluating catalogue (syntax.Close name) step does = absurd does
@@ -351,6 +415,7 @@ Own-in_session finds answer evaluating state command step = go command where
   go (CreateRankIndex name table predicate args at) does = own (CreateRankIndex name table predicate args at) does
   go (syntax.Ask query) does = own (syntax.Ask query) does
   go (Explain query) does = own (Explain query) does
+  go (syntax.Insert table rows) does = own (syntax.Insert table rows) does
   go (ExplainAnalyze query) does = own (ExplainAnalyze query) does
 
 -- the statements of a script

@@ -15,7 +15,7 @@ use Rattle.rs_catalog.specs.IndexesHold.{IndexesHold}
 use Rattle.rs_catalog.specs.Snapshot.{sizes_in, snapshot}
 use Rattle.rs_catalog.proofs.SnapshotFacts.{HaveRows-all, snapshot-all}
 use Rattle.rs_exec.specs.Covering.{Covers}
-use Rattle.rs_syntax.specs.Syntax.{Command, CreateTable, CreatePredicate, CreateRankIndex, Ask, Declare, Fetch, Close, Explain, ExplainAnalyze}
+use Rattle.rs_syntax.specs.Syntax.{Command, CreateTable, CreatePredicate, CreateRankIndex, Ask, Declare, Fetch, Close, Explain, ExplainAnalyze, Insert}
 use Rattle.rs_syntax.specs.Syntax as syntax
 use Rattle.rs_syntax.specs.declared.name.Name.{Name}
 use Rattle.rs_syntax.specs.Written.{AreWritten, IsWritten, IsWrittenQuery}
@@ -299,6 +299,7 @@ module _ (give : GiveAnswers) (same : AskTheSame) (finds : Finds) (one : OneFile
   alike-step catalogue (Close name) a b left right written of da db la lb = absurd da
   alike-step catalogue (Explain query) a b left right written of da db la lb = absurd of
   alike-step catalogue (ExplainAnalyze query) a b left right written of da db la lb = absurd of
+  alike-step catalogue (Insert table rows) a b left right written of da db la lb = alike-same a b left right (da ∙ sym db) la lb
 
   -- what two steps of a session have in common that went well: what they put, and what they leave, but for cursors that agree
   record AlikeStates (a b : Step State) (left right : State) : Type 0 where
@@ -491,6 +492,7 @@ module _ (give : GiveAnswers) (same : AskTheSame) (finds : Finds) (one : OneFile
         (close-alike name (sym (ap (λ (s : Step State). s.outcome) da) ∙ la) (sym (ap (λ (s : Step State). s.outcome) db) ∙ lb)))
     alike-in_session (Explain query) a b written of da db la lb = absurd of
     alike-in_session (ExplainAnalyze query) a b written of da db la lb = absurd of
+    alike-in_session (Insert table rows) a b written of da db la lb = beside-alike (Insert table rows) a b written of da.0 db.0 da.1 db.1 da.2 db.2 la lb
 
   -- a statement that was run, and those behind it
   record Behind (rest : State → Run → Type 0) (step : Step State) (run : Run) : Type 0 where

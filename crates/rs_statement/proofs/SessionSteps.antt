@@ -11,7 +11,7 @@ use Rattle.rs_expr.specs.Scoring.{Answering}
 use Rattle.rs_catalog.specs.Catalog.{CatalogDef}
 use Rattle.rs_catalog.specs.Snapshot.{sizes_in, snapshot}
 use Rattle.rs_syntax.specs.Syntax as syntax
-use Rattle.rs_syntax.specs.Syntax.{Command, CreateTable, CreatePredicate, CreateRankIndex, Ask, Declare, Fetch, Close, Explain, ExplainAnalyze, command_of, query_of}
+use Rattle.rs_syntax.specs.Syntax.{Command, CreateTable, CreatePredicate, CreateRankIndex, Ask, Declare, Fetch, Close, Explain, ExplainAnalyze, Insert, command_of, query_of}
 use Rattle.rs_syntax.specs.declared.name.Name.{Name}
 use Rattle.rs_syntax.specs.declared.select.Select.{Select}
 use Rattle.rs_syntax.specs.declared.statement.Statement.{Statement}
@@ -71,6 +71,7 @@ of_no_cursor (statement.Fetch count name) a b c = absurd (b count name refl)
 of_no_cursor (statement.Close name) a b c = absurd (c name refl)
 of_no_cursor (statement.Explain select) a b c = tt
 of_no_cursor (statement.ExplainAnalyze select) a b c = tt
+of_no_cursor (statement.Insert table rows) a b c = tt
 
 -- what the three kinds do
 module _ (finds : Finds) (answer : Answering) (evaluating : Evaluating) (state : State) (s : Statement) where
@@ -98,6 +99,7 @@ does-beside finds answer evaluating state (Fetch count name) own of does = absur
 does-beside finds answer evaluating state (Close name) own of does = absurd of
 does-beside finds answer evaluating state (Explain query) own of does = (own, does, refl)
 does-beside finds answer evaluating state (ExplainAnalyze query) own of does = (own, does, refl)
+does-beside finds answer evaluating state (Insert table rows) own of does = (own, does, refl)
 
 run_of-beside : (cursors : List OpenCursor) (step : Step CatalogDef) → run_of (beside_cursors cursors step) ≡ run_of step
 run_of-beside cursors step = go step.outcome where

@@ -5,7 +5,7 @@ use Rattle.rs_outside.specs.Files.{FilesTold}
 use Rattle.rs_table.specs.Column.{Column}
 use Rattle.rs_expr.specs.Scoring.{Answering}
 use Rattle.rs_catalog.specs.Catalog.{CatalogDef}
-use Rattle.rs_syntax.specs.Syntax.{Command, CreateTable, CreatePredicate, CreateRankIndex, Ask, Declare, Fetch, Close, Explain, ExplainAnalyze, command_of, commands_of}
+use Rattle.rs_syntax.specs.Syntax.{Command, CreateTable, CreatePredicate, CreateRankIndex, Ask, Declare, Fetch, Close, Explain, ExplainAnalyze, Insert, command_of, commands_of}
 use Rattle.rs_syntax.specs.declared.name.Name.{Name}
 use Rattle.rs_syntax.specs.declared.statement.Statement.{Statement}
 use Rattle.rs_syntax.specs.Written.{AreWritten, IsWritten}
@@ -47,6 +47,7 @@ Does-finds a b more answer evaluating catalogue (Fetch count name) step does = d
 Does-finds a b more answer evaluating catalogue (Close name) step does = does
 Does-finds a b more answer evaluating catalogue (Explain query) step does = does
 Does-finds a b more answer evaluating catalogue (ExplainAnalyze query) step does = does
+Does-finds a b more answer evaluating catalogue (Insert table rows) step does = does
 
 pub DoesInSession-finds : (a b : Finds) → ((name : List ℕ) (there : Option (List ℕ)) → a name there → b name there) → (answer : Answering) (evaluating : Evaluating) (state : State) (command : Command) (step : Step State)
     → DoesInSession a answer evaluating state command step → DoesInSession b answer evaluating state command step
@@ -65,6 +66,7 @@ DoesInSession-finds a b more answer evaluating state command step = go command w
   go (Ask query) does = own (Ask query) does
   go (Explain query) does = own (Explain query) does
   go (ExplainAnalyze query) does = own (ExplainAnalyze query) does
+  go (Insert table rows) does = own (Insert table rows) does
 
 -- each statement does something
 pub some-step : (told : Option FilesTold) (answer : Answering) (evaluating : Evaluating) (state : State) (command : Command)
@@ -79,6 +81,7 @@ some-step told answer evaluating state (Fetch count name) = (_, refl)
 some-step told answer evaluating state (Close name) = (_, refl)
 some-step told answer evaluating state (Explain query) = (_, (_, refl, refl))
 some-step told answer evaluating state (ExplainAnalyze query) = (_, (_, refl, refl))
+some-step told answer evaluating state (Insert table rows) = (_, (_, refl, refl))
 
 -- a statement behind events that were done does what it does over what was there at first
 pub Stepped-first : (made : List Event) (evaluating : Evaluating) (state left : State) (command : Command) (result : Result (Unit {0}) Fault) (old middle new : Environment)

@@ -18,6 +18,7 @@ use Rattle.rs_value.specs.declared.kind.Kind.{Kind}
 use Rattle.rs_syntax.specs.Syntax.{command_of, query_of}
 use Rattle.rs_syntax.specs.declared.name.Arg.{Arg}
 use Rattle.rs_syntax.specs.declared.node.Node.{Node}
+use Rattle.rs_syntax.specs.declared.row.RowSyn.{RowSyn}
 use Rattle.rs_syntax.specs.declared.select.Select.{Select}
 use Rattle.rs_syntax.specs.declared.statement.Statement.{Statement}
 use Rattle.rs_syntax.specs.declared.statement.Statement.TheVariants as statement
@@ -151,22 +152,23 @@ module _ (catalogue : CatalogDef) (name : Name) (file : List ℕ) (bound : Resul
         leaves = made ∙ ap Ok (sym joins);
       }
 
--- a statement that concerns no cursor is one of six kinds
+-- a statement that concerns no cursor is one of seven kinds
 pub of_a_kind : (s : Statement)
     → ((name : Name) (columns : List (Name × Kind)) (file : List ℕ) → s ≡ statement.CreateTable name columns file → ⊥)
     → ((name : Name) (params : List (Name × Kind)) (max : ℤ × Span) (cost : Option (ℤ × Span)) (formula : Node) → s ≡ statement.CreatePredicate name params max cost formula → ⊥)
     → ((name table predicate : Name) (args : List Arg) (at : Span) → s ≡ statement.CreateRankIndex name table predicate args at → ⊥)
     → ((select : Select) → s ≡ statement.Query select → ⊥) → ((select : Select) → s ≡ statement.Explain select → ⊥) → ((select : Select) → s ≡ statement.ExplainAnalyze select → ⊥)
-    → IsOfNoCursor (command_of s) → ⊥
-of_a_kind (statement.CreateTable name columns file) a b c d e f of = absurd (a name columns file refl)
-of_a_kind (statement.CreatePredicate name params max cost formula) a b c d e f of = absurd (b name params max cost formula refl)
-of_a_kind (statement.CreateRankIndex name table predicate args at) a b c d e f of = absurd (c name table predicate args at refl)
-of_a_kind (statement.Query select) a b c d e f of = absurd (d select refl)
-of_a_kind (statement.Declare name select) a b c d e f of = of
-of_a_kind (statement.Fetch count name) a b c d e f of = of
-of_a_kind (statement.Close name) a b c d e f of = of
-of_a_kind (statement.Explain select) a b c d e f of = absurd (e select refl)
-of_a_kind (statement.ExplainAnalyze select) a b c d e f of = absurd (f select refl)
+    → ((table : Name) (rows : List RowSyn) → s ≡ statement.Insert table rows → ⊥) → IsOfNoCursor (command_of s) → ⊥
+of_a_kind (statement.CreateTable name columns file) a b c d e f g of = absurd (a name columns file refl)
+of_a_kind (statement.CreatePredicate name params max cost formula) a b c d e f g of = absurd (b name params max cost formula refl)
+of_a_kind (statement.CreateRankIndex name table predicate args at) a b c d e f g of = absurd (c name table predicate args at refl)
+of_a_kind (statement.Query select) a b c d e f g of = absurd (d select refl)
+of_a_kind (statement.Declare name select) a b c d e f g of = of
+of_a_kind (statement.Fetch count name) a b c d e f g of = of
+of_a_kind (statement.Close name) a b c d e f g of = of
+of_a_kind (statement.Explain select) a b c d e f g of = absurd (e select refl)
+of_a_kind (statement.ExplainAnalyze select) a b c d e f g of = absurd (f select refl)
+of_a_kind (statement.Insert table rows) a b c d e f g of = absurd (g table rows refl)
 
 -- what a query does, and what the two forms of EXPLAIN do
 pub Does-query : (finds : Finds) (answer : Answering) (evaluating : Evaluating) (catalogue : CatalogDef) (s : Statement) (select : Select) → s ≡ statement.Query select

@@ -4,6 +4,7 @@ pub mod Lines
 pub mod Steps
 pub mod Planned
 pub mod Sampled
+pub mod Inserts
 pub mod Statements
 pub mod Session
 pub mod Parts

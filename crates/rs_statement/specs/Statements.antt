@@ -3,7 +3,7 @@ use Rattle.std.specs.Prelude.{ℕ, ◌≡◌, List, [], ◌∷◌, Option, Some,
 use Rattle.rs_rank.specs.declared.answer.Answer.{Answer}
 use Rattle.rs_rank.specs.declared.scored_row.ScoredRow.{ScoredRow}
 use Rattle.rs_syntax.specs.declared.name.Name.{Name}
-use Rattle.rs_syntax.specs.Syntax.{Command, CreateTable, CreatePredicate, CreateRankIndex, Explain, ExplainAnalyze}
+use Rattle.rs_syntax.specs.Syntax.{Command, CreateTable, CreatePredicate, CreateRankIndex, Explain, ExplainAnalyze, Insert}
 use Rattle.rs_syntax.specs.Syntax as syntax
 use Rattle.rs_table.specs.Column.{Column}
 use Rattle.rs_value.specs.Results.{◌>>=◌}
@@ -18,6 +18,7 @@ use Rattle.rs_catalog.specs.declared.room.RoomFault.{RoomFault}
 use Rattle.rs_catalog.specs.declared.room.What.{What}
 use Rattle.rs_catalog.specs.declared.room.What.TheVariants as what
 use Rattle.rs_bind.specs.Indexes.{index_def_of}
+use Rattle.rs_bind.specs.Inserts.{insert_of}
 use Rattle.rs_bind.specs.Names.{columns_of}
 use Rattle.rs_bind.specs.Predicates.{predicate_of}
 use Rattle.rs_bind.specs.Queries.{bound_query}
@@ -41,6 +42,7 @@ use Rattle.rs_statement.specs.declared.script_fault.ScriptFault.TheVariants.{Bin
 use Rattle.rs_statement.specs.Content.{content_of, or_table_fault, table_limit}
 use Rattle.rs_statement.specs.Lines.{rank_lines}
 use Rattle.rs_statement.specs.Faults.{or_index_fault}
+use Rattle.rs_statement.specs.Inserts.{rows_step}
 use Rattle.rs_statement.specs.Planned.{asks_in_all, cards_for, plan_for, planned_step}
 use Rattle.rs_events.specs.Events.{Fetch, Finds, calls_in}
 use Rattle.rs_statement.specs.Sampled.{sample_step}
@@ -177,6 +179,8 @@ Does finds answer evaluating catalogue (CreateRankIndex name table predicate arg
 Does finds answer evaluating catalogue (syntax.Ask query) step = step ≡ select_step evaluating answer catalogue query
 Does finds answer evaluating catalogue (Explain query) step = step ≡ explain_step evaluating answer catalogue query
 Does finds answer evaluating catalogue (ExplainAnalyze query) step = step ≡ analyze_step evaluating answer catalogue query
+Does finds answer evaluating catalogue (Insert table rows) step =
+    step ≡ refused_or (rows_step answer catalogue) (or_bind_fault (insert_of catalogue (Insert table rows)))
 Does finds answer evaluating catalogue _ step = ⊥
 
 -- a statement that is neither EXPLAIN nor EXPLAIN ANALYZE

@@ -1,5 +1,5 @@
-//! What one statement of a script does: it makes a table, a predicate or a rank index, answers or explains a query, or opens, asks
-//! or closes a cursor. It says with which faults runs end, too.
+//! What one statement of a script does: it makes a table, a predicate or a rank index, puts rows into a table, answers or explains
+//! a query, or opens, asks or closes a cursor. It says with which faults runs end, too.
 //!
 //! Its promise: a statement's fetches, calls and puts, in order, the catalogue and open cursors that it leaves, or the
 //! fault that ends the run, are as defined; so are the line and the status of each fault.
@@ -11,6 +11,7 @@ mod evaluating;
 mod explained;
 mod fault;
 mod file;
+mod insert;
 mod laws;
 mod planned;
 mod planning;
@@ -25,6 +26,7 @@ pub use create::{create_index, create_predicate, create_table};
 pub use evaluating::Evaluating;
 pub use fault::{Fault, SessionFault, index_fault, only_row};
 pub use file::{fetch_file, table_fault};
+pub use insert::insert_rows;
 pub use laws::{guesses_call_nobody, queries_put_the_first_lines_of_their_answers};
 pub use put::put_rows;
 pub use sampling::Sampling;

@@ -2,7 +2,7 @@
 use Rattle.std.proofs.Common.{ℕ, ◌≡◌, ◌∙◌, ◌<◌, ◌≤◌, true, false, List, [], ◌∷◌, ◌++◌, Result, Ok, Err, refl, sym, ap, arith, append_assoc, map}
 use Rattle.std.proofs.lemmas.List.{append-nil, map-append}
 use Rattle.rs_value.specs.declared.rel.Rel.{Rel}
-use Rattle.rs_grammar.specs.Grammar.{Part, One, Many, Use, Tree, Nothing, More, Node, ◌⨟◌, word, start_of, expr, neg, comp, sum, sign, base, case, when}
+use Rattle.rs_grammar.specs.Grammar.{Part, One, Many, Use, Tree, Nothing, More, ◌⨟◌, word, start_of, expr, neg, comp, sum, sign, base, case, when}
 use Rattle.rs_grammar.specs.Kinds.{comparisons, counted_kinds}
 use Rattle.rs_grammar.specs.Reading as reading
 use Rattle.rs_grammar.specs.Reading.{State, Read, opens}

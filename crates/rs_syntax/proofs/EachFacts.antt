@@ -1,5 +1,5 @@
 -- The tokens of each script parse, or they are refused.
-use Rattle.std.proofs.Common.{ℕ, zero, suc, ◌≡◌, ◌+◌, ◌-◌, ◌<◌, ◌≤◌, ◌⊎◌, inl, inr, Bool, true, false, List, [], ◌∷◌, length, take, drop, get_or, refl, arith, if◌then◌else◌}
+use Rattle.std.proofs.Common.{ℕ, zero, suc, ◌≡◌, ◌+◌, ◌<◌, ◌≤◌, ◌⊎◌, inl, inr, Bool, true, false, List, [], ◌∷◌, length, take, drop, get_or, refl, arith}
 use Rattle.std.proofs.lemmas.List.{drop_all}
 use Rattle.std.proofs.lemmas.Bool.{cases_lt}
 use Rattle.rs_grammar.specs.Grammar.{Tree, script}
@@ -15,7 +15,7 @@ use Rattle.rs_syntax.specs.Statements.{script_of}
 use Rattle.rs_syntax.specs.Syntax.{Command}
 use Rattle.rs_syntax.specs.declared.fault.SyntaxFault.{SyntaxFault}
 use Rattle.rs_syntax.proofs.Cutting.{EndsLast-here, Within-more, statements_ended-more}
-use Rattle.rs_syntax.proofs.ScriptFacts.{Given, begin, Halts-refused, Halts-too_deep, Read-refused, Read-too_many_refused, Read-parses, Read-sound}
+use Rattle.rs_syntax.proofs.ScriptFacts.{Parses-one, IsSound-not_refused, Given, begin, Halts-refused, Halts-too_deep, Read-refused, Read-too_many_refused, Read-parses, Read-sound}
 
 -- up to where a parser reads: to the end, or to the `;` of the last statement that may stand
 record Cut (ls : List Lexeme) : Type 0 where
@@ -62,6 +62,14 @@ cut_from (suc left) ls i le less few =
 cut_of : (ls : List Lexeme) → Cut ls
 cut_of ls = cut_from (length ls) ls 0 (omega arith) (omega arith) (λ i lt. absurd (omega (arith, lt)))
 
+-- the reader reads what tokens parse to
+pub record IsRead (text : List ℕ) (tokens : List Token) (commands : List Command) : Type 0 where
+  pub n : ℕ
+  pub tree : Tree
+  pub behind : State
+  pub read : Read script (begin text tokens n) tree behind
+  pub means : script_of tree ≡ commands
+
 -- tokens parse and nothing is wrong with them, or they are refused
 abbrev pub IsParsed : List ℕ → List Token → Type 0
 IsParsed text tokens = ((commands : List Command) × Parses text tokens commands × IsSound text tokens) ⊎ ((fault : SyntaxFault) × Refuses text tokens fault)
@@ -86,4 +94,33 @@ each_is_parsed text tokens = go (cut_of (lexemes_of text tokens))
     by n given (fails c a f) = IsParsed-fails text tokens n given c a f
 
     go : Cut (lexemes_of text tokens) → IsParsed text tokens
+    go cut = by cut.n (record { few = cut.few; cut = cut.cut }) (each_state_reads (begin text tokens cut.n))
+
+-- where tokens parse and nothing is wrong with them, the reader reads what they parse to
+pub Parses-read : (text : List ℕ) (tokens : List Token) (commands : List Command) → Parses text tokens commands → IsSound text tokens → IsRead text tokens commands
+Parses-read text tokens commands parses sound = go (cut_of (lexemes_of text tokens))
+  where
+    refused : (x : SyntaxFault) → Refuses text tokens x → IsRead text tokens commands
+    refused x r = absurd (IsSound-not_refused text tokens x sound r)
+
+    reads-all : (n : ℕ) → Given text tokens n → (t : Tree) (a : State) → Read script (begin text tokens n) t a → (rest : List Lexeme) → a.rest ≡ rest
+        → (more : List Token) → drop n tokens ≡ more → IsRead text tokens commands
+    reads-all n given t a r (l ∷ ls) here more behind =
+        refused _ (Read-refused text tokens n t a given r (λ none. let e : l ∷ ls ≡ [] = rw here at none in cc))
+    reads-all n given t a r [] here (token ∷ more) behind =
+        refused _ (Read-too_many_refused text tokens n t a given r here (λ none. let e : token ∷ more ≡ [] = rw behind at none in cc))
+    reads-all n given t a r [] here [] behind = record {
+      n = n;
+      tree = t;
+      behind = a;
+      read = r;
+      means = Parses-one text tokens (script_of t) commands (Read-parses text tokens n t a (script_of t) given r here behind refl) parses;
+    }
+
+    by : (n : ℕ) → Given text tokens n → Reading script (begin text tokens n) → IsRead text tokens commands
+    by n given (reads t a r) = reads-all n given t a r a.rest refl (drop n tokens) refl
+    by n given (fails reading.Expected a f) = refused _ (Halts-refused text tokens n a given (record { fails = f }))
+    by n given (fails reading.TooDeep a f) = refused _ (Halts-too_deep text tokens n a given (record { fails = f }))
+
+    go : Cut (lexemes_of text tokens) → IsRead text tokens commands
     go cut = by cut.n (record { few = cut.few; cut = cut.cut }) (each_state_reads (begin text tokens cut.n))

@@ -12,7 +12,10 @@ pub mod Cutting
 pub mod Numbers
 pub mod ScriptFacts
 pub mod EachFacts
+pub mod TreeFacts
+pub mod RowFacts
 pub mod SpanFacts
 pub mod WrittenFacts
+mod FewRows
 mod WorkedScripts
 mod WorkedWritten

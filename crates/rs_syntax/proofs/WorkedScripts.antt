@@ -1,6 +1,6 @@
 -- What scripts are parsed to and refused with, computed on literals.
 use Rattle.std.proofs.Common.{ℕ, zero, suc, ◌≡◌, ◌+◌, ◌≤◌, Bool, true, false, List, [], ◌∷◌, length, take, drop, refl, sym, ap, subst, ◌∙◌, ◌++◌, append-nil, arith, inl, Some, None, lit≤, if◌then◌else◌}
-use Rattle.std.specs.Prelude.{Option, codes, pos}
+use Rattle.std.specs.Prelude.{Option, codes, pos, negsuc}
 use Rattle.std.proofs.lemmas.List.{length-map, length-take, length-take-le, drop_all}
 use Rattle.rs_value.specs.declared.rel.Rel.TheVariants.{Eq}
 use Rattle.rs_value.specs.declared.kind.Kind.TheVariants as value
@@ -20,7 +20,7 @@ use Rattle.rs_syntax.specs.Cut.{refusal_of}
 use Rattle.rs_syntax.specs.Expressions.{expr_of}
 use Rattle.rs_syntax.specs.Scripts.{Parses, Refuses, IsSound, lexemes_of}
 use Rattle.rs_syntax.specs.Statements.{script_of}
-use Rattle.rs_syntax.specs.Syntax.{Expression, Int, Column, Arith, Compare, And, Not, Command, CreateTable, CreatePredicate, Ask, Close}
+use Rattle.rs_syntax.specs.Syntax.{Expression, Int, Column, Arith, Compare, And, Not, Command, CreateTable, CreatePredicate, Ask, Close, Insert}
 use Rattle.rs_syntax.specs.Trees.{span, starts_at, ends_at}
 use Rattle.rs_syntax.specs.declared.fault.SyntaxFault.{SyntaxFault}
 use Rattle.rs_syntax.specs.declared.fault.SyntaxFault.TheVariants as fault
@@ -28,6 +28,9 @@ use Rattle.rs_syntax.specs.declared.name.Name.{Name}
 use Rattle.rs_syntax.specs.declared.name.ColRef.{ColRef}
 use Rattle.rs_syntax.specs.declared.name.Arg.TheVariants as arg
 use Rattle.rs_syntax.specs.declared.node.Op.TheVariants.{Sub}
+use Rattle.rs_syntax.specs.declared.row.Cell.{Cell}
+use Rattle.rs_syntax.specs.declared.row.Cell.TheVariants as cell
+use Rattle.rs_syntax.specs.declared.row.RowSyn.{RowSyn}
 use Rattle.rs_syntax.specs.declared.select.Items.TheVariants as items
 use Rattle.rs_syntax.specs.declared.select.TermSyn.{TermSyn}
 use Rattle.rs_syntax.proofs.ScriptFacts.{Given, begin, Halts-refused, Halts-too_deep, Read-refused, Read-parses, Read-sound}
@@ -373,3 +376,81 @@ at_the_limit = refuses-by 1000 (codes "SELECT a FROM h WHERE " ++ denials 256) (
 too_deep : Refuses (codes "SELECT a FROM h WHERE " ++ denials 257) (filter_tokens 257) (fault.TooDeep 1046)
 unfolding computes
 too_deep = refuses-by 1000 (codes "SELECT a FROM h WHERE " ++ denials 257) (filter_tokens 257) (fault.TooDeep 1046) (lit≤ tt) refl
+
+-- rows of an INSERT: a number with a sign has the place of both tokens, and a row that of its brackets
+abbrev row : List Cell → ℕ → ℕ → RowSyn
+row cells start end = record { cells = cells; at = span start end }
+
+two_rows : Means (codes "INSERT INTO t VALUES (9, -1), (- 2, 'a''b')")
+    (Insert (named (codes "t") 12 13)
+    (row (cell.Int (pos 9) (span 22 23) ∷ cell.Int (negsuc 0) (span 25 27) ∷ []) 21 28
+    ∷ row (cell.Int (negsuc 1) (span 31 34) ∷ cell.Text (codes "a'b") (span 36 42) ∷ []) 30 43 ∷ []) ∷ [])
+unfolding computes
+two_rows = means-by _ _ refl (lit≤ tt) refl
+
+-- INTO and VALUES are names where the grammar doesn't ask for them, and INSERT is none
+into_a_keyword : Means (codes "INSERT INTO into VALUES (1); CLOSE values")
+    (Insert (named (codes "into") 12 16) (row (cell.Int (pos 1) (span 25 26) ∷ []) 24 27 ∷ []) ∷ Close (named (codes "values") 35 41) ∷ [])
+unfolding computes
+into_a_keyword = means-by _ _ refl (lit≤ tt) refl
+
+insert_is_reserved : IsRefusedWith (codes "CLOSE insert") (fault.Expected 6)
+unfolding computes
+insert_is_reserved = refused-by _ _ refl (lit≤ tt) refl
+
+-- no cell, no row behind a comma, a list of columns, a column for a value, and a sign in front of a sign or of a text
+no_cell : IsRefusedWith (codes "INSERT INTO t VALUES ()") (fault.Expected 22)
+unfolding computes
+no_cell = refused-by _ _ refl (lit≤ tt) refl
+
+no_further_row : IsRefusedWith (codes "INSERT INTO t VALUES (1),") (fault.Expected 25)
+unfolding computes
+no_further_row = refused-by _ _ refl (lit≤ tt) refl
+
+no_list_of_columns : IsRefusedWith (codes "INSERT INTO t (a) VALUES (1)") (fault.Expected 14)
+unfolding computes
+no_list_of_columns = refused-by _ _ refl (lit≤ tt) refl
+
+no_column : IsRefusedWith (codes "INSERT INTO t VALUES (v)") (fault.Expected 22)
+unfolding computes
+no_column = refused-by _ _ refl (lit≤ tt) refl
+
+no_two_signs : IsRefusedWith (codes "INSERT INTO t VALUES (- -1)") (fault.Expected 24)
+unfolding computes
+no_two_signs = refused-by _ _ refl (lit≤ tt) refl
+
+no_signed_text : IsRefusedWith (codes "INSERT INTO t VALUES (-'a')") (fault.Expected 23)
+unfolding computes
+no_signed_text = refused-by _ _ refl (lit≤ tt) refl
+
+no_null : IsRefusedWith (codes "INSERT INTO t VALUES (NULL)") (fault.NotInProfile 22)
+unfolding computes
+no_null = refused-by _ _ refl (lit≤ tt) refl
+
+-- this many rows of a number with a sign, each with a comma behind it, and their tokens from a place on
+abbrev signed_rows : ℕ → List ℕ
+signed_rows zero = []
+signed_rows (suc n) = codes "(-1)," ++ signed_rows n
+
+abbrev signed_row_tokens : ℕ → ℕ → List Token → List Token
+signed_row_tokens zero at behind = behind
+signed_row_tokens (suc n) at behind =
+    token_at at sort.Symbol 1 ∷ token_at (at + 1) sort.Symbol 1 ∷ token_at (at + 2) sort.Number 1 ∷ token_at (at + 3) sort.Symbol 1 ∷ token_at (at + 4) sort.Symbol 1
+    ∷ signed_row_tokens n (at + 5) behind
+
+abbrev insert_tokens : List Token → List Token
+insert_tokens rows = token_at 0 sort.Word 6 ∷ token_at 7 sort.Word 4 ∷ token_at 12 sort.Word 1 ∷ token_at 14 sort.Word 6 ∷ rows
+
+-- the bracket and the sign of 128 rows are within the limit, so that only the next row is missing, at the end
+rows_at_the_limit : Refuses (codes "INSERT INTO t VALUES " ++ signed_rows 128) (insert_tokens (signed_row_tokens 128 21 [])) (fault.Expected 661)
+unfolding computes
+rows_at_the_limit =
+    refuses-by 1000 (codes "INSERT INTO t VALUES " ++ signed_rows 128) (insert_tokens (signed_row_tokens 128 21 [])) (fault.Expected 661) (lit≤ tt) refl
+
+-- the bracket of the next one is one too many
+one_row_too_many : Refuses (codes "INSERT INTO t VALUES " ++ signed_rows 128 ++ codes "(")
+    (insert_tokens (signed_row_tokens 128 21 (token_at 661 sort.Symbol 1 ∷ []))) (fault.TooDeep 661)
+unfolding computes
+one_row_too_many =
+    refuses-by 1000 (codes "INSERT INTO t VALUES " ++ signed_rows 128 ++ codes "(") (insert_tokens (signed_row_tokens 128 21 (token_at 661 sort.Symbol 1 ∷ [])))
+    (fault.TooDeep 661) (lit≤ tt) refl

@@ -3,9 +3,11 @@ use Rattle.std.proofs.Common.{[], ◌∷◌, arith}
 use Rattle.std.specs.Prelude.{ℤ, pos, negsuc}
 use Rattle.rs_lex.specs.declared.token.Span.{Span}
 use Rattle.rs_value.specs.declared.kind.Kind.TheVariants as kind
-use Rattle.rs_syntax.specs.Syntax.{Command, CreateTable, CreateRankIndex, Close}
+use Rattle.rs_syntax.specs.Syntax.{Command, CreateTable, CreateRankIndex, Close, Insert}
 use Rattle.rs_syntax.specs.declared.name.Name.{Name}
 use Rattle.rs_syntax.specs.declared.name.Arg.TheVariants.{Int, Text}
+use Rattle.rs_syntax.specs.declared.row.Cell.TheVariants as cell
+use Rattle.rs_syntax.specs.declared.row.RowSyn.{RowSyn}
 use Rattle.rs_syntax.specs.Written.{IsWritten, AreWritten}
 
 abbrev at : Span
@@ -27,3 +29,20 @@ no_column h = omega (arith, h)
 
 too_great : IsWritten (index (pos 4000000000000000001)) → ⊥
 too_great h = omega (arith, h.1.0)
+
+-- a row of a number and a text
+abbrev row : ℤ → RowSyn
+row n = record { cells = cell.Int n at ∷ cell.Text [] at ∷ []; at = at }
+
+a_row : IsWritten (Insert name (row (negsuc 3999999999999999999) ∷ []))
+a_row = record { some = omega arith; rows = (record { some = omega arith; cells = (omega arith, (tt, tt)) }, tt) }
+
+-- no row, a row of no value, and a number beyond the greatest one
+no_row : IsWritten (Insert name []) → ⊥
+no_row h = omega (arith, h.some)
+
+no_cell : IsWritten (Insert name (record { cells = []; at = at } ∷ [])) → ⊥
+no_cell h = omega (arith, h.rows.0.some)
+
+too_great_in_a_row : IsWritten (Insert name (row (pos 4000000000000000001) ∷ [])) → ⊥
+too_great_in_a_row h = omega (arith, h.rows.0.cells.0)

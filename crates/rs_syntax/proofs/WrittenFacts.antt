@@ -11,12 +11,12 @@ use Rattle.rs_grammar.specs.declared.lexeme.Lexeme.{Lexeme}
 use Rattle.rs_grammar.proofs.LexemeFacts.{IsFront-whole}
 use Rattle.rs_syntax.specs.Numbers.{IsNumber, AreNumbers}
 use Rattle.rs_syntax.specs.Scripts.{Parses}
-use Rattle.rs_syntax.specs.Statements.{signed_of, arg_in, arg_of, args_of, term_of, terms_of, block_of, right_of, select_of, columns_of, create_in, create_of, statement_in, statement_of, statements_of, script_of}
+use Rattle.rs_syntax.specs.Statements.{signed_of, arg_in, arg_of, args_of, cell_in, cell_of, row_of, rows_of, term_of, terms_of, block_of, right_of, select_of, columns_of, create_in, create_of, statement_in, statement_of, statements_of, script_of}
 use Rattle.rs_syntax.specs.Syntax.{Block, Command, Explain, ExplainAnalyze}
 use Rattle.rs_syntax.specs.Trees.{leaf, last, part, inside, of_rule, last_of_rule, if_there, is_there, items_of, listed}
 use Rattle.rs_value.specs.declared.set_op.SetOp.{SetOp}
 use Rattle.rs_syntax.proofs.Numbers.{AreNumbers-lexemes}
-use Rattle.rs_syntax.specs.Written.{IsWrittenArg, AreWrittenArgs, IsWrittenBlock, IsWrittenTerm, IsWrittenQuery, IsWritten, AreWritten}
+use Rattle.rs_syntax.specs.Written.{IsWrittenArg, AreWrittenArgs, IsWrittenBlock, IsWrittenTerm, IsWrittenQuery, IsWrittenCell, IsWrittenRow, IsWrittenInsert, IsWritten, AreWritten}
 
 -- the numbers of a tree's tokens are such that a script can write them
 abbrev HasNumbers : Tree → Type 0
@@ -133,6 +133,24 @@ select_of-written t h = record {
   terms = terms_of-written (of_rule 4 t) (HasNumbers-of_rule 4 t h);
 }
 
+-- the rows of an INSERT
+cell_in-written : (t : Tree) → HasNumbers t → IsWrittenCell (cell_in t)
+cell_in-written (This t) h = signed_of-size (part 0 t) (last 1 t) (HasNumbers-last 1 t h)
+cell_in-written (That t) h = tt
+cell_in-written t h = tt
+
+row_of-written : (t : Tree) → HasNumbers t → IsWrittenRow (row_of t)
+row_of-written t h = record {
+  some = omega arith;
+  cells = AllByRecursion-listed IsWrittenCell cell_of (λ u k. cell_in-written (inside u) (HasNumbers-inside u k)) (inside (of_rule 1 t)) (HasNumbers-inside (of_rule 1 t) (HasNumbers-of_rule 1 t h));
+}
+
+rows_of-written : (t : Tree) → HasNumbers t → IsWrittenInsert (rows_of t)
+rows_of-written t h = record {
+  some = omega arith;
+  rows = AllByRecursion-listed IsWrittenRow row_of row_of-written (inside t) (HasNumbers-inside t h);
+}
+
 -- statements
 create_in-written : (t : Tree) → HasNumbers t → IsWritten (create_in t)
 create_in-written (This t) h = length-columns (of_rule 3 t)
@@ -153,8 +171,9 @@ statement_in-written (That (This t)) h = select_of-written t h
 statement_in-written (That (That (This t))) h = select_of-written (last_of_rule 4 t) (HasNumbers-last_of_rule 4 t h)
 statement_in-written (That (That (That (This t)))) h = tt
 statement_in-written (That (That (That (That (This t))))) h = tt
-statement_in-written (That (That (That (That (That t))))) h =
+statement_in-written (That (That (That (That (That (This t)))))) h =
     explained-written (is_there (of_rule 1 t)) (last_of_rule 2 t) (HasNumbers-last_of_rule 2 t h)
+statement_in-written (That (That (That (That (That (That t)))))) h = rows_of-written (last_of_rule 4 t) (HasNumbers-last_of_rule 4 t h)
 statement_in-written t h = tt
 
 statement_of-written : (t : Tree) → HasNumbers t → IsWritten (statement_of t)

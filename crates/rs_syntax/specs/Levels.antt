@@ -1,5 +1,5 @@
 -- The rules of the operators that group to the left, as levels: the weakest operators first.
-use Rattle.std.specs.Prelude.{ℕ, List, [], ◌∷◌}
+use Rattle.std.specs.Prelude.{List, [], ◌∷◌}
 use Rattle.rs_lex.specs.declared.token.Span.{Span}
 use Rattle.rs_grammar.specs.Grammar.{Rule, expr, conj, neg, sum, prod, sign, Tree}
 use Rattle.rs_grammar.specs.declared.kind.TokenKind.{TokenKind}

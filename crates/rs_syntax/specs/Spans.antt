@@ -7,11 +7,14 @@ use Rattle.rs_syntax.specs.declared.name.Name.{Name}
 use Rattle.rs_syntax.specs.declared.name.ColRef.{ColRef}
 use Rattle.rs_syntax.specs.declared.name.Arg.{Arg}
 use Rattle.rs_syntax.specs.declared.name.Arg.TheVariants as arg
+use Rattle.rs_syntax.specs.declared.row.Cell.{Cell}
+use Rattle.rs_syntax.specs.declared.row.Cell.TheVariants as cell
+use Rattle.rs_syntax.specs.declared.row.RowSyn.{RowSyn}
 use Rattle.rs_syntax.specs.declared.select.TermSyn.{TermSyn}
 use Rattle.rs_syntax.specs.declared.select.Items.{Items}
 use Rattle.rs_syntax.specs.declared.select.Items.TheVariants as items
 use Rattle.rs_value.specs.declared.set_op.SetOp.{SetOp}
-use Rattle.rs_syntax.specs.Syntax.{Expression, Int, Text, Column, Neg, Arith, Abs, Least, Greatest, Case, Compare, And, Or, Not, Block, Query, Command, CreateTable, CreatePredicate, CreateRankIndex, Ask, Declare, Fetch, Close, Explain, ExplainAnalyze}
+use Rattle.rs_syntax.specs.Syntax.{Expression, Int, Text, Column, Neg, Arith, Abs, Least, Greatest, Case, Compare, And, Or, Not, Block, Query, Command, CreateTable, CreatePredicate, CreateRankIndex, Ask, Declare, Fetch, Close, Explain, ExplainAnalyze, Insert}
 
 -- a span that isn't empty lies from one place up to another
 abbrev pub Lies : ℕ → ℕ → Span → Type 0
@@ -97,6 +100,14 @@ QueryIn q = BlockIn q.left before Maybe RightIn q.right before Each TermIn q.ter
 abbrev pub TypedIn : Name × value.Kind → ℕ → ℕ → Type 0
 TypedIn column = NameIn column.0
 
+abbrev pub CellIn : Cell → ℕ → ℕ → Type 0
+CellIn (cell.Int n at) = At at
+CellIn (cell.Text text at) = At at
+
+-- a row from its first bracket to its last
+abbrev pub RowIn : RowSyn → ℕ → ℕ → Type 0
+RowIn row = Whole row.at (Each CellIn row.cells)
+
 abbrev pub CommandIn : Command → ℕ → ℕ → Type 0
 CommandIn (CreateTable name columns file) = NameIn name before Each TypedIn columns
 CommandIn (CreatePredicate name params max cost formula) =
@@ -108,6 +119,7 @@ CommandIn (Fetch count name) = NumberIn count before NameIn name
 CommandIn (Close name) = NameIn name
 CommandIn (Explain query) = QueryIn query
 CommandIn (ExplainAnalyze query) = QueryIn query
+CommandIn (Insert table rows) = NameIn table before Each RowIn rows
 
 -- statements stand one behind the other, from one place of a script up to another
 abbrev pub SpansInOrder : ℕ → ℕ → List Command → Type 0

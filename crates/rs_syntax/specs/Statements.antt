@@ -8,12 +8,15 @@ use Rattle.rs_value.specs.declared.kind.Kind.TheVariants as value
 use Rattle.rs_syntax.specs.declared.name.Name.{Name}
 use Rattle.rs_syntax.specs.declared.name.Arg.{Arg}
 use Rattle.rs_syntax.specs.declared.name.Arg.TheVariants.{Column, Int, Text}
+use Rattle.rs_syntax.specs.declared.row.Cell.{Cell}
+use Rattle.rs_syntax.specs.declared.row.Cell.TheVariants as cell
+use Rattle.rs_syntax.specs.declared.row.RowSyn.{RowSyn}
 use Rattle.rs_syntax.specs.declared.select.TermSyn.{TermSyn}
 use Rattle.rs_syntax.specs.declared.select.Items.{Items}
 use Rattle.rs_syntax.specs.declared.select.Items.TheVariants as items
 use Rattle.rs_value.specs.declared.set_op.SetOp.{SetOp}
 use Rattle.rs_value.specs.declared.set_op.SetOp.TheVariants.{UnionAll, Union, Intersect, Except}
-use Rattle.rs_syntax.specs.Syntax.{Expression, Block, Query, Command, CreateTable, CreatePredicate, CreateRankIndex, Ask, Declare, Fetch, Close, Explain, ExplainAnalyze}
+use Rattle.rs_syntax.specs.Syntax.{Expression, Block, Query, Command, CreateTable, CreatePredicate, CreateRankIndex, Ask, Declare, Fetch, Close, Explain, ExplainAnalyze, Insert}
 use Rattle.rs_syntax.specs.Trees.{starts_at, ends_at, span, span_of, leaf, part, last, inside, of_rule, last_of_rule, if_there, is_there, listed, is_of_kind, leaf_name, leaf_number, weight_in, colref_of}
 use Rattle.rs_syntax.specs.Expressions.{expr_of}
 
@@ -169,14 +172,40 @@ close_of t = Close (leaf_name (last_of_rule 1 t))
 abbrev pub explain_of : Tree → Command
 explain_of t = if is_there (of_rule 1 t) then ExplainAnalyze (select_of (last_of_rule 2 t)) else Explain (select_of (last_of_rule 2 t))
 
--- statement: create | select | declare | fetch | close | explain
+-- cell: [ "-" ] number | literal
+abbrev pub cell_in : Tree → Cell
+cell_in (This t) = cell.Int (signed_number_of t).0 (signed_number_of t).1
+cell_in (That t) = cell.Text (leaf t).text (leaf t).at
+cell_in t = cell.Text [] (span_of t)
+
+abbrev pub cell_of : Tree → Cell
+cell_of t = cell_in (inside t)
+
+-- cells: cell { "," cell }
+abbrev pub cells_of : Tree → List Cell
+cells_of t = listed cell_of (inside t)
+
+-- row: "(" cells ")"
+abbrev pub row_of : Tree → RowSyn
+row_of t = record { cells = cells_of (of_rule 1 t); at = span_of t }
+
+-- rows: row { "," row }
+abbrev pub rows_of : Tree → List RowSyn
+rows_of t = listed row_of (inside t)
+
+-- insert: INSERT INTO name VALUES rows
+abbrev pub insert_of : Tree → Command
+insert_of t = Insert (leaf_name (of_rule 2 t)) (rows_of (last_of_rule 4 t))
+
+-- statement: create | select | declare | fetch | close | explain | insert
 abbrev pub statement_in : Tree → Command
 statement_in (This t) = create_of t
 statement_in (That (This t)) = Ask (select_of t)
 statement_in (That (That (This t))) = declare_of t
 statement_in (That (That (That (This t)))) = fetch_of t
 statement_in (That (That (That (That (This t))))) = close_of t
-statement_in (That (That (That (That (That t))))) = explain_of t
+statement_in (That (That (That (That (That (This t)))))) = explain_of t
+statement_in (That (That (That (That (That (That t)))))) = insert_of t
 statement_in t = close_of t
 
 abbrev pub statement_of : Tree → Command

@@ -9,6 +9,7 @@ use Rattle.rs_syntax.specs.declared.name.Arg.{Arg}
 use Rattle.rs_syntax.specs.declared.node.Op.{Op}
 use Rattle.rs_syntax.specs.declared.node.Node.{Node}
 use Rattle.rs_syntax.specs.declared.node.Node.TheVariants as node
+use Rattle.rs_syntax.specs.declared.row.RowSyn.{RowSyn}
 use Rattle.rs_syntax.specs.declared.select.TermSyn.{TermSyn}
 use Rattle.rs_syntax.specs.declared.select.Items.{Items}
 use Rattle.rs_value.specs.declared.set_op.SetOp.{SetOp}
@@ -57,6 +58,7 @@ pub data Command : Type 0 where
   Close : Name → Command
   Explain : Query → Command
   ExplainAnalyze : Query → Command
+  Insert : Name → List RowSyn → Command
 
 abbrev pub expression_of : Node → Expression
 expression_of (node.Int n at) = Int n at
@@ -93,6 +95,7 @@ command_of (statement.Fetch count name) = Fetch count name
 command_of (statement.Close name) = Close name
 command_of (statement.Explain select) = Explain (query_of select)
 command_of (statement.ExplainAnalyze select) = ExplainAnalyze (query_of select)
+command_of (statement.Insert table rows) = Insert table rows
 
 -- the statements of a script
 abbrev pub commands_of : List Statement → List Command

@@ -2,9 +2,13 @@
 use Rattle.std.specs.Prelude.{nat_abs, ◌≤◌, List, length, IfSome}
 use Rattle.std.specs.List.{AllByRecursion}
 use Rattle.rs_value.specs.Number.{greatest_int}
-use Rattle.rs_syntax.specs.Syntax.{Block, Query, Command, CreateTable, CreatePredicate, CreateRankIndex, Ask, Declare, Fetch, Close, Explain, ExplainAnalyze}
+use Rattle.rs_grammar.specs.Places.{most_deep}
+use Rattle.rs_syntax.specs.Syntax.{Block, Query, Command, CreateTable, CreatePredicate, CreateRankIndex, Ask, Declare, Fetch, Close, Explain, ExplainAnalyze, Insert}
 use Rattle.rs_syntax.specs.declared.name.Arg.{Arg}
 use Rattle.rs_syntax.specs.declared.name.Arg.TheVariants.{Column, Int, Text}
+use Rattle.rs_syntax.specs.declared.row.Cell.{Cell}
+use Rattle.rs_syntax.specs.declared.row.Cell.TheVariants as cell
+use Rattle.rs_syntax.specs.declared.row.RowSyn.{RowSyn}
 use Rattle.rs_value.specs.declared.set_op.SetOp.{SetOp}
 use Rattle.rs_syntax.specs.declared.select.TermSyn.{TermSyn}
 
@@ -31,7 +35,22 @@ pub record IsWrittenQuery (query : Query) : Type 0 where
   pub right : IfSome query.right (λ (second : SetOp × Block). IsWrittenBlock second.1)
   pub terms : AllByRecursion IsWrittenTerm query.terms
 
--- a table has a column, a predicate a parameter, and the numbers among arguments are in range
+-- a cell that is a number is in range
+abbrev pub IsWrittenCell : Cell → Type 0
+IsWrittenCell (cell.Int n at) = nat_abs n ≤ greatest_int
+IsWrittenCell (cell.Text text at) = Unit {0}
+
+-- a row has a cell, and each is such
+pub record IsWrittenRow (row : RowSyn) : Type 0 where
+  pub some : 1 ≤ length row.cells
+  pub cells : AllByRecursion IsWrittenCell row.cells
+
+-- an INSERT has a row
+pub record IsWrittenInsert (inserted : List RowSyn) : Type 0 where
+  pub some : 1 ≤ length inserted
+  pub rows : AllByRecursion IsWrittenRow inserted
+
+-- a table has a column, a predicate a parameter, an INSERT a row, and the numbers among arguments and in rows are in range
 abbrev pub IsWritten : Command → Type 0
 IsWritten (CreateTable name columns file) = 1 ≤ length columns
 IsWritten (CreatePredicate name params max cost formula) = 1 ≤ length params
@@ -42,6 +61,12 @@ IsWritten (Fetch count name) = Unit {0}
 IsWritten (Close name) = Unit {0}
 IsWritten (Explain query) = IsWrittenQuery query
 IsWritten (ExplainAnalyze query) = IsWrittenQuery query
+IsWritten (Insert table rows) = IsWrittenInsert rows
+
+-- an INSERT has no more rows than a statement may have tokens that count towards its depth
+abbrev pub HasFewRows : Command → Type 0
+HasFewRows (Insert table rows) = length rows ≤ most_deep
+HasFewRows _ = Unit {0}
 
 -- each statement of a script is such
 abbrev pub AreWritten : List Command → Type 0

@@ -8,6 +8,7 @@ mod fault;
 mod name;
 mod node;
 mod parser;
+mod row;
 mod script;
 mod select;
 mod statement;
@@ -15,8 +16,10 @@ mod statement;
 pub use fault::SyntaxFault;
 pub use name::{Arg, ColRef, Name};
 pub use node::{Node, Op};
+pub use row::{Cell, RowSyn};
 pub use script::{
     each_list_of_tokens_parses_or_is_refused, one_list_of_statements, one_refusal, parse,
+    rows_are_few,
 };
 pub use select::{BlockSyn, Items, Select, TermSyn};
 pub use statement::Statement;

@@ -21,6 +21,7 @@ mod names;
 mod nodes;
 mod operators;
 mod order;
+mod rows;
 mod statements;
 mod terms;
 mod tokens;

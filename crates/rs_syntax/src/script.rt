@@ -6,7 +6,8 @@ ghost use Rattle.rs_syntax.specs.Cut.{EndsLast, refusal_of};
 ghost use Rattle.rs_syntax.specs.Scripts.{IsSound, Parses, Refuses};
 ghost use Rattle.rs_syntax.specs.Spans.{SpansInOrder};
 ghost use Rattle.rs_syntax.specs.Syntax.{Command, commands_of};
-ghost use Rattle.rs_syntax.specs.Written.{AreWritten};
+ghost use Rattle.rs_syntax.specs.Written.{AreWritten, HasFewRows};
+ghost use Rattle.std.specs.List.{AllByRecursion};
 ghost use Rattle.rs_syntax.specs.declared.fault.SyntaxFault.{SyntaxFault};
 
 use crate::fault::SyntaxFault;
@@ -26,7 +27,8 @@ pub fn parse(alloc: Global, script: &Text, tokens: &[Token]) -> Result<Vec<State
     ensures sound { IfOk result (λ _. IsSound script.now tokens.now) }
     // Each span lies in the script, within that of what it is a part of, and those of its parts stand in order.
     ensures ordered { IfOk result (λ made. SpansInOrder 0 (length script.now) (commands_of made.items)) }
-    // A table has a column, a predicate a parameter, a block a FROM entry, and numbers among arguments are in range.
+    // A table has a column, a predicate a parameter, a block a FROM entry, an INSERT a row and each row a cell, and numbers
+    // among arguments and cells are in range.
     ensures written { IfOk result (λ made. AreWritten (commands_of made.items)) }
     // Whatever the tokens parse to, where nothing is wrong with them, is answered: the grammar gives one list at most.
     ensures only { (commands : List Command) → Parses script.now tokens.now commands → IsSound script.now tokens.now
@@ -111,6 +113,13 @@ pub fn one_list_of_statements()
 pub fn one_refusal()
     ensures one { (text : List ℕ) (tokens : List Token) (a b : SyntaxFault) → Refuses text tokens a → Refuses text tokens b → a ≡ b }
     ensures sound { (text : List ℕ) (tokens : List Token) (a : SyntaxFault) → IsSound text tokens → Refuses text tokens a → ⊥ }
+{}
+
+/// Where nothing is wrong with the tokens of a script, each INSERT that they parse to has at most 256 rows: the bracket of
+/// each row counts towards the depth.
+pub fn rows_are_few()
+    ensures { (text : List ℕ) (tokens : List Token) (commands : List Command) → Parses text tokens commands → IsSound text tokens
+        → AllByRecursion HasFewRows commands }
 {}
 
 /// Tokens parse to statements, and nothing is wrong with them, or they are refused.

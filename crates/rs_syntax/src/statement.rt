@@ -1,5 +1,6 @@
 use crate::name::{Arg, Name};
 use crate::node::Node;
+use crate::row::RowSyn;
 use crate::select::Select;
 use rs_lex::Span;
 use rs_value::{Kind, List, Text};
@@ -42,4 +43,8 @@ pub enum Statement {
     },
     Explain(Select),
     ExplainAnalyze(Select),
+    Insert {
+        table: Name,
+        rows: List<RowSyn>,
+    },
 }

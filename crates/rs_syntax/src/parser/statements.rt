@@ -25,7 +25,7 @@ impl Parser {
         Ok(statements)
     }
 
-    /// `create | select | declare | fetch | close | explain`
+    /// `create | select | declare | fetch | close | explain | insert`
     fn statement(&mut self, alloc: Global) -> Result<Statement, ParserFault>
         ensures { Reads (Use statement) statement_of command_of self.old self.new result }
     {
@@ -44,7 +44,10 @@ impl Parser {
         if self.at(TokenKind::Close) {
             return self.close();
         }
-        self.explain(alloc)
+        if self.at(TokenKind::Explain) {
+            return self.explain(alloc);
+        }
+        self.insert(alloc)
     }
 
     /// `CREATE ( create_table | create_predicate | create_rank_index )`
@@ -188,11 +191,12 @@ impl Parser {
 }
 
 /// The words that begin a statement.
-const STATEMENTS: [TokenKind; 6] = [
+const STATEMENTS: [TokenKind; 7] = [
     TokenKind::Close,
     TokenKind::Create,
     TokenKind::Declare,
     TokenKind::Explain,
     TokenKind::Fetch,
+    TokenKind::Insert,
     TokenKind::Select,
 ];

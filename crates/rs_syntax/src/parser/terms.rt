@@ -91,7 +91,7 @@ impl Parser {
     }
 
     /// `[ "-" ] number`
-    fn signed_number(&mut self) -> Result<(i64, Span), ParserFault>
+    pub(crate) fn signed_number(&mut self) -> Result<(i64, Span), ParserFault>
         ensures { Reads (optional (word Minus) ⨟ word Number) signed_number_of (λ n. n) self.old self.new result }
     {
         let from = self.start();

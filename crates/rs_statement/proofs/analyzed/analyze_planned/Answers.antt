@@ -1,4 +1,4 @@
-use Rattle.std.proofs.Common.{◌≡◌, ◌∙◌, List, [], ◌∷◌, ap, refl, subst, sym}
+use Rattle.std.proofs.Common.{◌≡◌, ◌∙◌, List, [], ◌∷◌, ap, refl, subst}
 use Rattle.std.specs.Prelude.{Ok, Err, Some}
 use Rattle.rs_value.proofs.ResultFacts.{given-err}
 use Rattle.rs_syntax.specs.Syntax.{query_of}
@@ -9,7 +9,6 @@ use Rattle.rs_plan.specs.declared.counts.Counts.{Counts}
 use Rattle.rs_sample.specs.Kept.{cards_of}
 use Rattle.rs_enum.specs.Texts.{text_of}
 use Rattle.rs_exec.specs.Asking.{world_of}
-use Rattle.rs_catalog.specs.IndexesHold.{IndexesHold}
 use Rattle.rs_statement.specs.declared.fault.Fault.TheVariants.{Memory}
 use Rattle.rs_statement.specs.Parts.Steps.{Ran}
 use Rattle.rs_events.specs.Run.{lines_run}

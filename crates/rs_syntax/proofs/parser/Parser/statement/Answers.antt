@@ -23,5 +23,8 @@ returns-then-at-4 c = goes_rule _ _ _ _ _ _ (goes_that _ _ _ _ _ _ _ (sym c.if-a
 pub returns-then-at-5 : goal.returns-then-at-5
 returns-then-at-5 c = goes_rule _ _ _ _ _ _ (goes_that _ _ _ _ _ _ _ (sym c.if-at.ensures) (goes_that _ _ _ _ _ _ _ (sym c.if-at-2.ensures) (goes_that _ _ _ _ _ _ _ (sym c.if-at-3.ensures) (goes_that _ _ _ _ _ _ _ (sym c.if-at-4.ensures) (goes_this _ _ _ _ _ _ _ (sym c.if-at-5.ensures) c.close.ensures)))))
 
+pub returns-then-at-6 : goal.returns-then-at-6
+returns-then-at-6 c = goes_rule _ _ _ _ _ _ (goes_that _ _ _ _ _ _ _ (sym c.if-at.ensures) (goes_that _ _ _ _ _ _ _ (sym c.if-at-2.ensures) (goes_that _ _ _ _ _ _ _ (sym c.if-at-3.ensures) (goes_that _ _ _ _ _ _ _ (sym c.if-at-4.ensures) (goes_that _ _ _ _ _ _ _ (sym c.if-at-5.ensures) (goes_this _ _ _ _ _ _ _ (sym c.if-at-6.ensures) c.explain.ensures))))))
+
 pub returns : goal.returns
-returns c = goes_rule _ _ _ _ _ _ (goes_that _ _ _ _ _ _ _ (sym c.if-at.ensures) (goes_that _ _ _ _ _ _ _ (sym c.if-at-2.ensures) (goes_that _ _ _ _ _ _ _ (sym c.if-at-3.ensures) (goes_that _ _ _ _ _ _ _ (sym c.if-at-4.ensures) (goes_that _ _ _ _ _ _ _ (sym c.if-at-5.ensures) c.explain.ensures)))))
+returns c = goes_rule _ _ _ _ _ _ (goes_that _ _ _ _ _ _ _ (sym c.if-at.ensures) (goes_that _ _ _ _ _ _ _ (sym c.if-at-2.ensures) (goes_that _ _ _ _ _ _ _ (sym c.if-at-3.ensures) (goes_that _ _ _ _ _ _ _ (sym c.if-at-4.ensures) (goes_that _ _ _ _ _ _ _ (sym c.if-at-5.ensures) (goes_that _ _ _ _ _ _ _ (sym c.if-at-6.ensures) c.insert.ensures))))))

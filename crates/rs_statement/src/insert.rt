@@ -1,0 +1,97 @@
+//! INSERT: rows that join a table and its rank indexes.
+
+ghost use Rattle.std.specs.Prelude.{◌≡◌, ◌⊎◌, ◌<◌, IfOk, OnErr, length};
+ghost use Rattle.rs_value.specs.Answer.{Gives};
+ghost use Rattle.rs_catalog.specs.Growing.{CanJoin};
+ghost use Rattle.rs_typing.specs.Models.{result_map};
+ghost use Rattle.rs_syntax.specs.Syntax.{command_of};
+ghost use Rattle.rs_syntax.specs.Written.{IsWritten};
+ghost use Rattle.rs_bind.specs.Inserts.{IsInsert, insert_of};
+ghost use Rattle.rs_events.specs.Environment.{Environment};
+ghost use Rattle.rs_statement.specs.Inserts.{NamesIndex, grow_fault, index_predicate, rows_step};
+ghost use Rattle.rs_statement.specs.Parts.Steps.{Stepped};
+ghost use Rattle.rs_statement.specs.Statements.{or_bind_fault, refused_or};
+
+use crate::fault::{Fault, only_row};
+use rs_bind::bind_insert;
+use rs_catalog::{Catalog, GrowFault};
+use rs_expr::Scorer;
+use rs_syntax::Statement;
+use rs_value::{List, Memory, Text, Value};
+use std::alloc::Global;
+
+/// The number of the table of an INSERT, and the rows that join it.
+fn bound_rows(
+    alloc: Global,
+    catalog: &Catalog,
+    statement: &Statement,
+) -> Result<(u8, Vec<List<Value>>), Fault>
+    requires form { IsInsert (command_of statement.now) }
+    requires written { IsWritten (command_of statement.now) }
+    ensures gives { Gives Fault.Memory (or_bind_fault (insert_of catalog.now (command_of statement.now))) (result_map (λ made. (made.0, made.1.items)) result) }
+    ensures joins { IfOk result (λ made. CanJoin catalog.now made.0 made.1.items) }
+{
+    let bound = bind_insert(alloc, catalog, statement)?;
+    Ok(bound)
+}
+
+/// Puts the rows of an INSERT behind those of their table, and into its rank indexes. Names and types count first, and then
+/// the scores of the new rows, index by index. After a fault nothing has joined.
+pub fn insert_rows<S: Scorer>(
+    alloc: Global,
+    statement: &Statement,
+    catalog: &mut Catalog,
+    scorer: &mut S,
+) -> Result<(), Fault>
+    requires form { IsInsert (command_of statement.now) }
+    requires written { IsWritten (command_of statement.now) }
+    ensures does { (beside : Environment) → Stepped
+        (λ step. step ≡ refused_or (rows_step (S.state scorer.old).answer catalog.old) (or_bind_fault (insert_of catalog.old (command_of statement.now))))
+        catalog.new result (record beside { scorer = S.state scorer.old }) (record beside { scorer = S.state scorer.new }) }
+    ensures kept { OnErr result (catalog.new ≡ catalog.old) }
+{
+    let (table, rows) = bound_rows(alloc, catalog, statement)?;
+    match catalog.add_rows(alloc, table, rows, scorer) {
+        Ok(()) => Ok(()),
+        Err(why) => Err(grow_fault(catalog, why)),
+    }
+}
+
+/// The fault of a run in which rows don't join a table. Where there is no memory for a name, that is the fault.
+fn grow_fault(catalog: &Catalog, why: GrowFault) -> Fault
+    requires { NamesIndex catalog.now why }
+    ensures { (result ≡ grow_fault catalog.now why) ⊎ (result ≡ Fault.Memory) }
+{
+    match why {
+        GrowFault::BadScore {
+            index,
+            row,
+            got,
+            max,
+        } => match index_predicate(catalog, index) {
+            Ok(predicate) => Fault::BadScore {
+                predicate,
+                rows: only_row(row),
+                got,
+                max,
+            },
+            Err(Memory) => Fault::Memory,
+        },
+        GrowFault::Probe { index } => match index_predicate(catalog, index) {
+            Ok(predicate) => Fault::Probe { predicate },
+            Err(Memory) => Fault::Memory,
+        },
+        GrowFault::Memory => Fault::Memory,
+    }
+}
+
+/// The name of the predicate that the index of this number is of.
+fn index_predicate(catalog: &Catalog, index: u8) -> Result<Text, Memory>
+    requires { index < length catalog.now.indexes }
+    ensures { IfOk result (λ name. name ≡ index_predicate catalog.now index) }
+{
+    catalog
+        .predicate(catalog.index(index).predicate)
+        .name()
+        .copy()
+}
