@@ -4,7 +4,7 @@ mod DifferFacts
 mod GrowAtFacts
 mod GrowthFacts
 pub mod HeldFacts
-mod HeldRowsFacts
+pub mod HeldRowsFacts
 pub mod IndexForFacts
 mod InsideFacts
 pub mod InTurnFacts

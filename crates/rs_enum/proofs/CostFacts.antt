@@ -1,5 +1,5 @@
 -- Parts of plans: that estimates may be asked for them, and how much they cost at most.
-use Rattle.std.proofs.Common.{◌≡◌, ◌⊎◌, inl, inr, ℕ, zero, suc, ◌+◌, ◌-◌, ◌*◌, ◌/◌, ◌^◌, ◌<◌, ◌≤◌, false, true, true≢false, cond, List, [], ◌∷◌, length, nat_eq, refl, sym, ◌∙◌, ap, subst, arith, bit_or, count_ones}
+use Rattle.std.proofs.Common.{◌≡◌, ◌⊎◌, inl, inr, ℕ, zero, suc, ◌+◌, ◌-◌, ◌*◌, ◌/◌, ◌^◌, ◌<◌, ◌≤◌, false, true, true≢false, List, [], ◌∷◌, length, refl, sym, ◌∙◌, ap, subst, arith, bit_or, count_ones}
 use Rattle.std.specs.Prelude.{Some, None, map, option_map, slice_get, unwrap_or}
 use Rattle.std.specs.Int.{bit_at}
 use Rattle.std.proofs.lemmas.List.{length-map}
@@ -17,6 +17,7 @@ use Rattle.rs_query.specs.declared.block.Block.{Block}
 use Rattle.rs_query.specs.declared.query.Query.{Query}
 use Rattle.rs_query.specs.declared.query.Query.TheVariants.{One, Set}
 use Rattle.rs_query.specs.declared.term.Term.{Term}
+pub use Rattle.rs_query.proofs.BlockFacts.{block-formed}
 use Rattle.rs_query.proofs.EntryFacts.{terms-inside}
 use Rattle.rs_sample.specs.Cards.{AreRead, BlockCards, IsEstimated, IsIndexed}
 use Rattle.rs_query.specs.Blocks.{block_in}
@@ -30,12 +31,6 @@ use Rattle.rs_enum.specs.QueryCards.{AreBlockCards, AreCards, IsBlockNumber, car
 use Rattle.rs_enum.proofs.BoundFacts.{calls-most, most-fits, most-join, most-set-fits, ones-rank, pairs-most, rows-most, set_calls-most}
 use Rattle.rs_enum.proofs.OrderOfPlans.{estimate-part}
 use Rattle.rs_enum.proofs.WithinFacts.{entries-below, sides-apart, terms-below, terms-within, terms_within-only}
-
--- each block of a well-formed query is well-formed
-pub block-formed : (catalogue : CatalogDef) (query : Query) (number : ℕ) → IsQuery catalogue query → IsBlock catalogue (block_in query number)
-block-formed catalogue (One block limit) number q = q.0
-block-formed catalogue (Set op left right limit) number q =
-    elim (nat_eq number 1) as (λ b. IsBlock catalogue (cond b left right)) [ true ↦ q.0.left_block | false ↦ q.0.right_block ]
 
 -- and has its cards
 pub block-cards : (query : Query) (cards : List BlockCards) (number : ℕ) → AreCards query cards → IsBlockNumber cards number

@@ -11,6 +11,7 @@ use Rattle.rs_query.specs.declared.block.Block.{Block}
 use Rattle.rs_query.specs.declared.query.Query.{Query}
 use Rattle.rs_query.specs.declared.query.Query.TheVariants.{One, Set}
 use Rattle.rs_query.specs.declared.term.Term.{Term}
+pub use Rattle.rs_query.proofs.BlockFacts.{block-formed}
 use Rattle.rs_plan.specs.Lists.{sizes_in}
 use Rattle.rs_query.specs.Blocks.{block_in}
 use Rattle.rs_exec.specs.Asked.{HasBlock}
@@ -22,12 +23,6 @@ pub slice_get-none : {A : Type 0} (xs : List A) (i : ℕ) → slice_get xs i ≡
 slice_get-none [] i e = omega arith
 slice_get-none (x ∷ xs) zero e = absurd (let f : Some x ≡ None = e in cc)
 slice_get-none (x ∷ xs) (suc i) e = let rest = slice_get-none xs i e in omega arith
-
--- each block of a query is well formed
-pub block-formed : (catalogue : CatalogDef) (query : Query) (number : ℕ) → IsQuery catalogue query → IsBlock catalogue (block_in query number)
-block-formed catalogue (One block limit) number formed = formed.0
-block-formed catalogue (Set op left right limit) number formed =
-    elim (eqb number 1) as (λ b. IsBlock catalogue (cond b left right)) [ true ↦ formed.0.left_block | false ↦ formed.0.right_block ]
 
 -- its weights are small enough
 pub light-terms : (catalogue : CatalogDef) (block : Block) → IsBlock catalogue block → AllByRecursion (λ (term : Term). term.weight ≤ 1000000) block.terms

@@ -16,6 +16,7 @@ use Rattle.rs_rank.specs.declared.key.Key.{Key}
 use Rattle.rs_rank.specs.declared.row.RankRow.{RankRow}
 use Rattle.rs_rank.proofs.MaskFacts.{even-power, half-power}
 use Rattle.rs_rank.proofs.OrderFacts.{key_cmp-total}
+use Rattle.rs_rank.proofs.PlaceFacts.{zeros}
 use Rattle.rs_query.specs.Combinations.{choices, numbers_to, satisfies}
 use Rattle.rs_query.specs.Tables.{sizes_of}
 use Rattle.rs_scan.specs.Scans.{entry_row, rows_from, table_rows}
@@ -104,9 +105,6 @@ module _ (w : World) (number entry : ℕ) (some : 1 ≤ entry) (few : entry ≤ 
 
   abbrev ids : List ℕ → Ids
   ids rows = record { block = number; mask = mask_of entry; rows = rows }
-
-  abbrev zeros : List ℕ
-  zeros = 0 ∷ 0 ∷ 0 ∷ 0 ∷ 0 ∷ 0 ∷ []
 
   size-is : get_or (sizes_in w number) (entry - 1) 0 ≡ size_at w number entry
   size-is = unwrapped (sizes_in w number) (entry - 1) where

@@ -1,6 +1,6 @@
 -- Rows of the answer that are made behind the order and the limit are the same.
 use Rattle.std.proofs.Common.{◌≡◌, ◌∙◌, ◌++◌, ℕ, Bool, true, false, List, [], ◌∷◌, zero, suc, map, take, refl, sym, ap, subst}
-use Rattle.std.specs.Prelude.{Option, Some, None, ◌&&◌, ◌==◌, if◌then◌else◌, not}
+use Rattle.std.specs.Prelude.{Option, Some, None, ◌&&◌, not}
 use Rattle.std.specs.List.{AllByRecursion}
 use Rattle.std.proofs.lemmas.List.{map-append}
 use Rattle.rs_order.proofs.EachFacts.{each-append, each-map, each-take, each-weaker}
@@ -22,12 +22,6 @@ use Rattle.rs_query.specs.declared.query.Query.{Query}
 use Rattle.rs_query.specs.declared.query.Query.TheVariants.{One, Set}
 use Rattle.rs_query.proofs.ExtendFacts.{HasRows-combinations}
 use Rattle.rs_plain.specs.Keeping.{IsWhole, IsWholeIn, answer_for, answer_in, keeps_duplicates, scored_block, scored_for, scored_query}
-
--- each block of a query is one of the catalogue
-pub block-formed : (catalogue : CatalogDef) (query : Query) (number : ℕ) → IsQuery catalogue query → IsBlock catalogue (block_in query number)
-block-formed catalogue (One block limit) number formed = formed.0
-block-formed catalogue (Set op left right limit) number formed =
-    elim (number == 1) as (λ b. IsBlock catalogue (if b then left else right)) [ true ↦ formed.0.left_block | false ↦ formed.0.right_block ]
 
 -- the rows that the scored combinations of a block make
 pub answers-block : (answer : Answering) (catalogue : CatalogDef) (number : ℕ) (block : Block) (rows : List (List ℕ))

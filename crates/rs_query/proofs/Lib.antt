@@ -1,6 +1,7 @@
 pub mod AddsFacts
 pub mod ArgFacts
 pub mod AskFacts
+pub mod BlockFacts
 pub mod CellFacts
 pub mod ChoiceFacts
 pub mod EntryFacts

@@ -1,6 +1,7 @@
 pub mod IdsFacts
 pub mod MaskFacts
 pub mod OrderFacts
+pub mod PlaceFacts
 pub mod SetTurnFacts
 pub mod SortedFacts
 pub mod StableFacts

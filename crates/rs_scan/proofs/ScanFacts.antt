@@ -1,13 +1,11 @@
 -- What holds of the rows of scans.
-use Rattle.std.proofs.Common.{◌≡◌, ℕ, zero, suc, ◌+◌, ◌-◌, ◌<◌, ◌≤◌, List, [], ◌∷◌, length, get_or, set, Some, refl, sym, ◌∙◌, ap, arith}
+use Rattle.std.proofs.Common.{◌≡◌, ℕ, zero, suc, ◌+◌, ◌-◌, ◌<◌, ◌≤◌, List, length, get_or, set, Some, refl, sym, ◌∙◌, ap, arith}
 use Rattle.std.specs.Prelude.{slice_get}
 use Rattle.std.specs.List.{AllByRecursion}
 use Rattle.std.specs.Cmp.{nat_cmp_is}
 use Rattle.std.specs.Cmp.Lexicographic.{slice_cmp}
 use Rattle.std.specs.Ordering.{nat_cmp, ordering_then}
-use Rattle.std.specs.declared.cmp.Ordering.{Ordering}
-use Rattle.std.specs.declared.cmp.Ordering.TheVariants.{Less, Equal, Greater}
-use Rattle.std.proofs.lemmas.Cmp.{nat_cmp_total, tied_itself}
+use Rattle.std.specs.declared.cmp.Ordering.TheVariants.{Less}
 use Rattle.std.proofs.lemmas.List.{get_or-set_same}
 use Rattle.rs_order.specs.Climbing.{Climbs, Precedes as ComesBefore}
 use Rattle.rs_rank.specs.declared.key.Key.{Key}
@@ -15,11 +13,8 @@ use Rattle.rs_rank.specs.declared.weights.Weights.{Weights}
 use Rattle.rs_rank.specs.Ids.{AreOtherIds, IsIds}
 use Rattle.rs_rank.specs.Keys.{ids_cmp, key_cmp}
 use Rattle.rs_rank.specs.Rows.{HasSum, HaveOtherIds, key_of}
+use Rattle.rs_rank.proofs.PlaceFacts.{number-itself, set-ordered, zeros}
 use Rattle.rs_scan.specs.Scans.{IsEntryNumber, entry_row, rows_from}
-
--- no row yet
-abbrev zeros : List ℕ
-zeros = 0 ∷ 0 ∷ 0 ∷ 0 ∷ 0 ∷ 0 ∷ []
 
 -- the rows at the places of a table
 pub slice_get-rows_from : (block entry first count i : ℕ) → i < count → slice_get (rows_from block entry first count) i ≡ Some (entry_row block entry (first + i) 0)
@@ -33,26 +28,7 @@ pub length-rows_from : (block entry first count : ℕ) → length (rows_from blo
 length-rows_from block entry first zero = refl
 length-rows_from block entry first (suc count) = let e = length-rows_from block entry (suc first) count in omega arith
 
--- lists that differ at one place are ordered by what stands there
-number-itself : (x : ℕ) → nat_cmp x x ≡ Equal
-number-itself x = tied_itself nat_cmp_total x
-
-numbers-itself : (xs : List ℕ) → slice_cmp nat_cmp xs xs ≡ Equal
-numbers-itself [] = refl
-numbers-itself (x ∷ xs) = ap (λ o. ordering_then o (slice_cmp nat_cmp xs xs)) (number-itself x) ∙ numbers-itself xs
-
-then-equal : (o : Ordering) → ordering_then o Equal ≡ o
-then-equal Less = refl
-then-equal Equal = refl
-then-equal Greater = refl
-
-set-ordered : (xs : List ℕ) (i a b : ℕ) → i < length xs → slice_cmp nat_cmp (set xs i a) (set xs i b) ≡ nat_cmp a b
-set-ordered [] i a b within = absurd (omega arith)
-set-ordered (x ∷ xs) zero a b within = ap (ordering_then (nat_cmp a b)) (numbers-itself xs) ∙ then-equal (nat_cmp a b)
-set-ordered (x ∷ xs) (suc i) a b within =
-    ap (λ o. ordering_then o (slice_cmp nat_cmp (set xs i a) (set xs i b))) (number-itself x) ∙ set-ordered xs i a b (omega arith)
-
--- and are equal only where the same stands there
+-- lists that differ at one place are equal only where the same stands there
 set-same : (xs : List ℕ) (i a b : ℕ) → i < length xs → set xs i a ≡ set xs i b → a ≡ b
 set-same xs i a b within e = sym (get_or-set_same xs i a 0 within) ∙ ap (λ ys. get_or ys i 0) e ∙ get_or-set_same xs i b 0 within
 

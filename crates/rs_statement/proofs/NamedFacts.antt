@@ -1,5 +1,5 @@
 -- The predicates that the faults of asks name are those of the catalogue.
-use Rattle.std.proofs.Common.{ℕ, zero, suc, ◌≡◌, ◌-◌, ◌<◌, ◌==◌, ◌++◌, Bool, true, false, List, [], ◌∷◌, length, map, refl, sym, subst, inl, inr}
+use Rattle.std.proofs.Common.{ℕ, zero, suc, ◌≡◌, ◌-◌, ◌<◌, ◌++◌, Bool, true, false, List, [], ◌∷◌, length, map, refl, sym, subst, inl, inr}
 use Rattle.std.specs.Prelude.{Option, Some, None, Result, Ok, Err, slice_get, ◌⊎◌, if◌then◌else◌}
 use Rattle.std.specs.List.{AllByRecursion, flat_map}
 use Rattle.std.proofs.lemmas.Option.{slice_get_within}
@@ -11,27 +11,19 @@ use Rattle.rs_expr.specs.InOrder.{InquiryEnds, InquiryFails, InquiryStops, Inqui
 use Rattle.rs_expr.specs.Scoring.{Answering, ScorerState}
 use Rattle.rs_catalog.specs.Catalog.{CatalogDef}
 use Rattle.rs_query.specs.Questions.{Question, asking, first_of, is_bad, outcome_for, request_for, through_first}
-use Rattle.rs_query.specs.WellFormed.{IsBlock, IsQuery, IsTerm}
-use Rattle.rs_query.specs.declared.query.Query.{Query}
-use Rattle.rs_query.specs.declared.query.Query.TheVariants.{One, Set}
+use Rattle.rs_query.specs.WellFormed.{IsQuery, IsTerm}
 use Rattle.rs_query.specs.declared.term.Term.{Term}
+use Rattle.rs_query.proofs.BlockFacts.{block-formed}
 use Rattle.rs_query.proofs.ThroughFacts.{each-first, each-through}
 use Rattle.rs_plan.specs.Asks.{child_asks}
 use Rattle.rs_plan.specs.Calls.{own_question, part_of, questions, questions_of_ask, rank_part, side_part}
 use Rattle.rs_plan.specs.Lists.{World, list_of, numbered_block}
-use Rattle.rs_query.specs.Blocks.{block_in}
 use Rattle.rs_plan.specs.Trees.{Distinct, JoinOperator, Rank, RankScan, SeqScan, SetOperator, PlanTree}
 use Rattle.rs_exec.specs.Asking.{exec_faults, world_of}
 use Rattle.rs_exec.specs.Cursors.{CursorState, StandsFor, asks_of, call_of, is_over, next_answer, no_question, plan_of}
 use Rattle.rs_exec.specs.declared.fault.ExecFault.{ExecFault}
 use Rattle.rs_exec.specs.declared.fault.ExecFault.TheVariants.{BadScore, Broken, Memory, Probe}
 use Rattle.rs_statement.specs.Parts.Asks.{NamesPredicate}
-
--- each block of a query is one of the catalogue
-block-query : (catalogue : CatalogDef) (query : Query) (number : ℕ) → IsQuery catalogue query → IsBlock catalogue (block_in query number)
-block-query catalogue (One block limit) number formed = formed.0
-block-query catalogue (Set op left right limit) number formed =
-    elim (number == 1) as (λ b. IsBlock catalogue (if b then left else right)) [ true ↦ formed.0.left_block | false ↦ formed.0.right_block ]
 
 each-flat_map : {X Y : Type 0} (P : Y → Type 0) (f : X → List Y) (xs : List X) → ((x : X) → AllByRecursion P (f x)) → AllByRecursion P (flat_map f xs)
 each-flat_map P f [] h = tt
@@ -44,7 +36,7 @@ module _ (w : World) (formed : IsQuery w.catalogue w.query) where
 
   named-term : (number : ℕ) (place : ℕ) (term : Term) → slice_get (numbered_block w number).terms place ≡ Some term → term.predicate < length w.catalogue.predicates
   named-term number place term there =
-      let is = each-slice_get (IsTerm w.catalogue (numbered_block w number)) (numbered_block w number).terms place term (block-query w.catalogue w.query number formed).terms there in
+      let is = each-slice_get (IsTerm w.catalogue (numbered_block w number)) (numbered_block w number).terms place term (block-formed w.catalogue w.query number formed).terms there in
       slice_get_within w.catalogue.predicates term.predicate is.predicate is.has_predicate
 
   named-own : (term : ℕ) (row : Option RankRow) → AllByRecursion IsNamed (own_question w term row)

@@ -3,8 +3,11 @@ use Rattle.std.proofs.Common.{◌≡◌, ◌∙◌, ℕ, zero, suc, ◌<◌, ◌
 use Rattle.std.specs.Prelude.{Option, Some, None, option_map}
 use Rattle.std.specs.List.{AllByRecursion}
 use Rattle.std.proofs.lemmas.List.{length-map}
+use Rattle.rs_order.proofs.EachFacts.{each-slice_get}
+use Rattle.rs_expr.specs.Scoring.{Answering}
 use Rattle.rs_catalog.specs.Catalog.{CatalogDef, RankIndex}
 use Rattle.rs_catalog.specs.Indexes.{index_of, ranking_at}
+use Rattle.rs_catalog.specs.IndexesHold.{Holds, IndexHolds, IndexesHold}
 use Rattle.rs_catalog.proofs.IndexForFacts.{index-for}
 use Rattle.rs_query.specs.Answers.{padded}
 use Rattle.rs_query.specs.WellFormed.{IsBlock, IsTerm}
@@ -120,3 +123,11 @@ eligible-weights catalogue block indexes formed eligible place within =
 abbrev pub all_behind : List ℕ → Option (List ℕ) → Option (List ℕ)
 all_behind front None = None
 all_behind front (Some rest) = Some (front ++ rest)
+
+-- each of some indexes holds the scorer's answers, where all of the catalogue do
+pub held-indexes : (answer : Answering) (catalogue : CatalogDef) (indexes : List ℕ) → IndexesHold answer catalogue → AllByRecursion (Holds answer catalogue) indexes
+held-indexes answer catalogue [] held = tt
+held-indexes answer catalogue (index ∷ indexes) held = (
+  λ found there. (each-slice_get (IndexHolds answer catalogue) catalogue.indexes index found held there).holds,
+  held-indexes answer catalogue indexes held,
+)

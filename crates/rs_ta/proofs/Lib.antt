@@ -15,5 +15,6 @@ pub mod ScanFacts
 pub mod SeeFacts
 pub mod SeenFacts
 pub mod SightFacts
+pub mod SumFacts
 pub mod TermFacts
 pub mod Worked

@@ -1,45 +1,21 @@
 -- What comes behind in each list comes behind as a whole: its sum is no greater, and where the sums are equal its row is greater.
-use Rattle.std.proofs.Common.{◌≡◌, ℕ, zero, suc, ◌-◌, ◌*◌, ◌<◌, ◌≤◌, List, [], ◌∷◌, length, get_or, set, map, refl, sym, ◌∙◌, ap, subst, inl, inr, arith}
+use Rattle.std.proofs.Common.{◌≡◌, ℕ, suc, ◌-◌, ◌*◌, ◌<◌, ◌≤◌, List, [], ◌∷◌, length, get_or, map, sym, ◌∙◌, ap, subst, inl, inr, arith}
 use Rattle.std.proofs.lemmas.Bool.{cases_lt}
-use Rattle.std.proofs.lemmas.Cmp.{nat_cmp_total, tied_itself}
 use Rattle.std.proofs.lemmas.List.{get_or-set_same}
 use Rattle.std.proofs.lemmas.Nat.{mul-le}
 use Rattle.std.specs.Cmp.{nat_cmp_is}
 use Rattle.std.specs.Cmp.Lexicographic.{slice_cmp}
 use Rattle.std.specs.List.{AllByRecursion}
 use Rattle.std.specs.Ordering.{nat_cmp, ordering_then}
-use Rattle.std.specs.declared.cmp.Ordering.{Ordering}
-use Rattle.std.specs.declared.cmp.Ordering.TheVariants.{Less, Equal, Greater}
+use Rattle.std.specs.declared.cmp.Ordering.TheVariants.{Less, Equal}
 use Rattle.rs_rank.specs.declared.key.Key.{Key}
 use Rattle.rs_rank.specs.declared.scored_row.ScoredRow.{ScoredRow}
 use Rattle.rs_rank.specs.Keys.{ids_cmp, key_cmp}
 use Rattle.rs_rank.proofs.OrderFacts.{IsTied-parts}
+use Rattle.rs_rank.proofs.PlaceFacts.{number-itself, set-ordered, zeros}
 use Rattle.rs_ta.specs.Depths.{greatest, ids_at, weighted_sum}
 use Rattle.rs_catalog.specs.Indexes.{EntryPrecedes}
 use Rattle.rs_ta.specs.Scans.{IsEntry}
-
--- no row yet
-abbrev zeros : List ℕ
-zeros = 0 ∷ 0 ∷ 0 ∷ 0 ∷ 0 ∷ 0 ∷ []
-
--- lists that differ at one place are ordered by what stands there
-number-itself : (x : ℕ) → nat_cmp x x ≡ Equal
-number-itself x = tied_itself nat_cmp_total x
-
-numbers-itself : (xs : List ℕ) → slice_cmp nat_cmp xs xs ≡ Equal
-numbers-itself [] = refl
-numbers-itself (x ∷ xs) = ap (λ o. ordering_then o (slice_cmp nat_cmp xs xs)) (number-itself x) ∙ numbers-itself xs
-
-then-equal : (o : Ordering) → ordering_then o Equal ≡ o
-then-equal Less = refl
-then-equal Equal = refl
-then-equal Greater = refl
-
-set-ordered : (xs : List ℕ) (i a b : ℕ) → i < length xs → slice_cmp nat_cmp (set xs i a) (set xs i b) ≡ nat_cmp a b
-set-ordered [] i a b within = absurd (omega arith)
-set-ordered (x ∷ xs) zero a b within = ap (ordering_then (nat_cmp a b)) (numbers-itself xs) ∙ then-equal (nat_cmp a b)
-set-ordered (x ∷ xs) (suc i) a b within =
-    ap (λ o. ordering_then o (slice_cmp nat_cmp (set xs i a) (set xs i b))) (number-itself x) ∙ set-ordered xs i a b (omega arith)
 
 -- the key of a sum and a row
 abbrev pub key_at : ℕ → ℕ → ℕ → ℕ → Key

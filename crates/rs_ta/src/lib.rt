@@ -25,7 +25,9 @@ pub use block_laws::{eligible_blocks_can_be_scanned, threshold_scans_give_the_an
 pub use block_test::BlockTest;
 pub use eligible::eligible_indexes;
 pub use index_lists::IndexLists;
-pub use laws::{depths_grow, new_scan_stands, thresholds_and_answers_rise};
+pub use laws::{
+    depths_decide_the_sums_of_accesses, depths_grow, new_scan_stands, thresholds_and_answers_rise,
+};
 pub use lists::Lists;
 pub use mem_lists::MemLists;
 pub use row_test::RowTest;

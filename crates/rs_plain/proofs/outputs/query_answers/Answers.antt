@@ -5,7 +5,7 @@ use Rattle.rs_rank.specs.declared.row.RankRow.{RankRow}
 use Rattle.rs_query.specs.WellFormed.{IsBlock}
 use Rattle.rs_query.specs.declared.block.Block.{Block}
 use Rattle.rs_plain.specs.Keeping.{IsWhole, IsWholeIn, answer_for, answer_in}
-use Rattle.rs_plain.proofs.KeepingFacts.{block-formed}
+use Rattle.rs_query.proofs.BlockFacts.{block-formed}
 use Rattle.rs_plain.proofs.RowFacts.{get_or-own, map-at}
 use Rattle.rs_plain.proofs.outputs.query_answers.Goals as goal
 
