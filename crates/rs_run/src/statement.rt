@@ -13,7 +13,7 @@ use rs_events::Host;
 use rs_exec::cursors_stand_in_larger_catalogues;
 use rs_statement::{
     Evaluating, Fault, Session, close, create_index, create_predicate, create_table, declare,
-    fetch, release, run_analyze, run_explain, run_select,
+    fetch, insert_rows, release, run_analyze, run_explain, run_select,
 };
 use rs_syntax::Statement;
 use rs_table::TableReader;
@@ -124,6 +124,7 @@ fn run_without_cursor<T: TableReader, W: Host>(
         Statement::CreateRankIndex { name, .. } => {
             create_index(alloc, name, statement, catalog, host.scorer())
         }
+        Statement::Insert { .. } => insert_rows(alloc, statement, catalog, host.scorer()),
         Statement::Query(select) => { run_select(alloc, evaluating, select, catalog, host) }
         Statement::Explain(select) => { run_explain(alloc, evaluating, select, catalog, host) }
         Statement::ExplainAnalyze(select) => {

@@ -21,7 +21,7 @@ use Rattle.rs_events.specs.Sequence.{run_of}
 use Rattle.rs_events.proofs.InquirySteps.{Ran-unasked, TellFailedCalls, asked-ok}
 use Rattle.rs_events.proofs.RanFacts.{Ran-all}
 use Rattle.rs_events.proofs.SteppedFacts.{events-run_of, step_of}
-use Rattle.rs_statement.specs.Inserts.{NamesIndex, grow_fault, grow_outcome, index_predicate, rows_step}
+use Rattle.rs_statement.specs.Inserts.{NamesIndex, grow_fault, grow_outcome, index_predicate, insert_step}
 use Rattle.rs_statement.specs.Parts.Steps.{Ran, Stepped}
 use Rattle.rs_statement.specs.Steps.{statement_faults}
 use Rattle.rs_statement.specs.declared.fault.Fault.{Fault}
@@ -162,11 +162,11 @@ module _ (catalogue new : CatalogDef) (table : ℕ) (rows : List (List Value)) (
 
   -- the rows joined
   pub Rows-joined : GrowsBy table rows catalogue new (Ok tt) environment.scorer scorer
-      → Stepped (λ step. step ≡ rows_step environment.scorer.answer catalogue (table, rows)) new (Ok tt) environment behind
+      → Stepped (λ step. step ≡ insert_step environment.scorer.answer catalogue (table, rows)) new (Ok tt) environment behind
   Rows-joined grows =
       let made = grown-ok grows.indexes grows.answers in
       let asked = asked-ok grow.Memory asking made.0 environment scorer (subst (λ r. Inquires grow.Memory asking r environment.scorer scorer) made.1 grows.inquires) in record {
-        step = rows_step environment.scorer.answer catalogue (table, rows);
+        step = insert_step environment.scorer.answer catalogue (table, rows);
         does = refl;
         ran = subst (λ r. Ran (run_of (step_of (calls_in asking) (grow_outcome catalogue table rows r))) (Ok tt) environment behind) (sym asked.given)
             (Ran-all (record { events = calls_in asking; fault = None }) (Ok tt) environment behind asked.has refl);
@@ -176,11 +176,11 @@ module _ (catalogue new : CatalogDef) (table : ℕ) (rows : List (List Value)) (
   -- they didn't
   module _ (why : GrowFault) (grows : GrowsBy table rows catalogue new (Err why) environment.scorer scorer) where
     pub Rows-refused : (fault : Fault) → (fault ≡ grow_fault catalogue why) ⊎ (fault ≡ Memory)
-        → Stepped (λ step. step ≡ rows_step environment.scorer.answer catalogue (table, rows)) new (Err fault) environment behind
+        → Stepped (λ step. step ≡ insert_step environment.scorer.answer catalogue (table, rows)) new (Err fault) environment behind
     Rows-refused fault says = record {
-      step = rows_step environment.scorer.answer catalogue (table, rows);
+      step = insert_step environment.scorer.answer catalogue (table, rows);
       does = refl;
-      ran = Ran-unasked (grow_fault catalogue) grow.Memory asking why environment scorer (run_of (rows_step environment.scorer.answer catalogue (table, rows))) [] fault
+      ran = Ran-unasked (grow_fault catalogue) grow.Memory asking why environment scorer (run_of (insert_step environment.scorer.answer catalogue (table, rows))) [] fault
           (calls-told catalogue environment.scorer.answer table rows) refl
           (events-run_of (calls_in asking) (grow_outcome catalogue table rows asking.outcome) ∙ sym (append-nil (calls_in asking)))
           (λ e. ap (λ r. run_of (step_of (calls_in asking) (grow_outcome catalogue table rows r))) e) says (asked_in_vain catalogue new table rows environment.scorer scorer why grows);

@@ -63,7 +63,7 @@ use Rattle.rs_statement.specs.Steps.{Run, Step}
 use Rattle.rs_statement.specs.Planned.{ask_count, ask_outcome, ask_step, asks_from, asks_in_all, next_asks, plan_for, planned_step}
 use Rattle.rs_events.specs.Sequence.{RunOf, RunsOn, silent, still, then_step}
 use Rattle.rs_statement.specs.Faults.{or_index_fault}
-use Rattle.rs_statement.specs.Inserts.{grow_outcome, rows_step}
+use Rattle.rs_statement.specs.Inserts.{grow_outcome, insert_step}
 use Rattle.rs_statement.specs.declared.evaluating.Evaluating.{Evaluating}
 use Rattle.rs_statement.specs.declared.evaluating.Evaluating.TheVariants.{Planned, Plainly}
 use Rattle.rs_statement.specs.Statements.{Does, DoesTable, analyze_step, analyzed_step, explain_outcome, explain_step, explained_step, index_step, or_bind_fault, or_room_fault, query_outcome, query_step, refused_or, select_step, table_step, with_room}
@@ -322,7 +322,7 @@ Own-growth catalogue table rows (Err (grow.BadScore index row got max)) own = tt
 Own-growth catalogue table rows (Err (grow.Probe index)) own = absurd own
 Own-growth catalogue table rows (Err grow.Memory) own = tt
 
-Own-rows_step : (answer : Answering) (catalogue : CatalogDef) (joining : ℕ × List (List Value)) → Own (rows_step answer catalogue joining).outcome
+Own-rows_step : (answer : Answering) (catalogue : CatalogDef) (joining : ℕ × List (List Value)) → Own (insert_step answer catalogue joining).outcome
 unfolding Own
 Own-rows_step answer catalogue joining = Own-growth catalogue joining.0 joining.1 (growing answer catalogue joining.0 joining.1).outcome
     (OwnGrowth-in_turn (growing_index answer catalogue joining.0 joining.1) (OwnGrowth-index answer catalogue joining.0 joining.1) 0 catalogue.indexes)
@@ -344,7 +344,7 @@ Own-step finds answer evaluating catalogue (syntax.Ask query) step does =
 Own-step finds answer evaluating catalogue (Explain query) step does = subst (λ s. Own s.outcome) (sym does) (Own-explain_step evaluating answer catalogue query)
 Own-step finds answer evaluating catalogue (ExplainAnalyze query) step does = subst (λ s. Own s.outcome) (sym does) (Own-analyze_step evaluating answer catalogue query)
 Own-step finds answer evaluating catalogue (syntax.Insert table rows) step does =
-    subst (λ s. Own s.outcome) (sym does) (Own-refused (rows_step answer catalogue) _ (Own-bind (insert_of catalogue (syntax.Insert table rows))) (Own-rows_step answer catalogue))
+    subst (λ s. Own s.outcome) (sym does) (Own-refused (insert_step answer catalogue) _ (Own-bind (insert_of catalogue (syntax.Insert table rows))) (Own-rows_step answer catalogue))
 Own-step finds answer evaluating catalogue (syntax.Declare name query) step does = absurd does
 Own-step finds answer evaluating catalogue (syntax.Fetch count name) step does = absurd does
 Own-step finds answer evaluating catalogue (syntax.Close name) step does = absurd does

@@ -28,8 +28,8 @@ grow_outcome catalogue table rows (Ok indexes) = Ok (grown table rows indexes ca
 grow_outcome catalogue table rows (Err fault) = Err (grow_fault catalogue fault)
 
 -- the calls of the indexes, index by index in the order of making, and then the rows join
-abbrev pub rows_step : Answering → CatalogDef → ℕ × List (List Value) → Step CatalogDef
-rows_step answer catalogue joining =
+abbrev pub insert_step : Answering → CatalogDef → ℕ × List (List Value) → Step CatalogDef
+insert_step answer catalogue joining =
     let asked = growing answer catalogue joining.0 joining.1 in
     record { events = calls_in asked; outcome = grow_outcome catalogue joining.0 joining.1 asked.outcome }
 

@@ -42,7 +42,7 @@ use Rattle.rs_statement.specs.declared.script_fault.ScriptFault.TheVariants.{Bin
 use Rattle.rs_statement.specs.Content.{content_of, or_table_fault, table_limit}
 use Rattle.rs_statement.specs.Lines.{rank_lines}
 use Rattle.rs_statement.specs.Faults.{or_index_fault}
-use Rattle.rs_statement.specs.Inserts.{rows_step}
+use Rattle.rs_statement.specs.Inserts.{insert_step}
 use Rattle.rs_statement.specs.Planned.{asks_in_all, cards_for, plan_for, planned_step}
 use Rattle.rs_events.specs.Events.{Fetch, Finds, calls_in}
 use Rattle.rs_statement.specs.Sampled.{sample_step}
@@ -180,7 +180,7 @@ Does finds answer evaluating catalogue (syntax.Ask query) step = step ≡ select
 Does finds answer evaluating catalogue (Explain query) step = step ≡ explain_step evaluating answer catalogue query
 Does finds answer evaluating catalogue (ExplainAnalyze query) step = step ≡ analyze_step evaluating answer catalogue query
 Does finds answer evaluating catalogue (Insert table rows) step =
-    step ≡ refused_or (rows_step answer catalogue) (or_bind_fault (insert_of catalogue (Insert table rows)))
+    step ≡ refused_or (insert_step answer catalogue) (or_bind_fault (insert_of catalogue (Insert table rows)))
 Does finds answer evaluating catalogue _ step = ⊥
 
 -- a statement that is neither EXPLAIN nor EXPLAIN ANALYZE

@@ -8,7 +8,7 @@ ghost use Rattle.rs_syntax.specs.Syntax.{command_of};
 ghost use Rattle.rs_syntax.specs.Written.{IsWritten};
 ghost use Rattle.rs_bind.specs.Inserts.{IsInsert, insert_of};
 ghost use Rattle.rs_events.specs.Environment.{Environment};
-ghost use Rattle.rs_statement.specs.Inserts.{NamesIndex, grow_fault, index_predicate, rows_step};
+ghost use Rattle.rs_statement.specs.Inserts.{NamesIndex, grow_fault, index_predicate, insert_step};
 ghost use Rattle.rs_statement.specs.Parts.Steps.{Stepped};
 ghost use Rattle.rs_statement.specs.Statements.{or_bind_fault, refused_or};
 
@@ -46,7 +46,7 @@ pub fn insert_rows<S: Scorer>(
     requires form { IsInsert (command_of statement.now) }
     requires written { IsWritten (command_of statement.now) }
     ensures does { (beside : Environment) → Stepped
-        (λ step. step ≡ refused_or (rows_step (S.state scorer.old).answer catalog.old) (or_bind_fault (insert_of catalog.old (command_of statement.now))))
+        (λ step. step ≡ refused_or (insert_step (S.state scorer.old).answer catalog.old) (or_bind_fault (insert_of catalog.old (command_of statement.now))))
         catalog.new result (record beside { scorer = S.state scorer.old }) (record beside { scorer = S.state scorer.new }) }
     ensures kept { OnErr result (catalog.new ≡ catalog.old) }
 {
