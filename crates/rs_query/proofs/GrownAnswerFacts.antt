@@ -1,5 +1,5 @@
 -- What rows that were there are in a grown catalogue, and so the combinations and the answers of queries.
-use Rattle.std.proofs.Common.{ℕ, zero, suc, ◌≡◌, ◌∙◌, ◌+◌, ◌*◌, ◌-◌, ◌<◌, ◌≤◌, ◌&&◌, Bool, true, false, cond, List, [], ◌∷◌, ◌++◌, Some, None, Option, length, get_or, map, pos, refl, sym, ap, ap₂, subst, inl, inr, arith}
+use Rattle.std.proofs.Common.{ℕ, ◌≡◌, ◌∙◌, ◌+◌, ◌*◌, ◌-◌, ◌<◌, ◌≤◌, ◌&&◌, Bool, true, false, cond, List, [], ◌∷◌, ◌++◌, Some, None, Option, length, get_or, map, pos, refl, sym, ap, ap₂, subst, inl, inr, arith}
 use Rattle.std.specs.Prelude.{option_and_then, slice_get, unwrap_or}
 use Rattle.std.specs.Int.{bit_at}
 use Rattle.std.specs.List.{AllByRecursion, filter, list_all}
@@ -30,13 +30,13 @@ use Rattle.rs_query.specs.Combinations.{choices, combinations, holds_inside, sat
 use Rattle.rs_query.specs.Conjuncts.{ConjunctDef}
 use Rattle.rs_query.specs.Growth.{CatalogueGrows, IsSizes, IsViewOf}
 use Rattle.rs_query.specs.Meaning.{argument_value, argument_values, column_value, conjunct_holds, is_inside, outputs_of}
-use Rattle.rs_query.specs.Tables.{HasRow, HasRows, all_entries, entry_table, row_number, size_of}
+use Rattle.rs_query.specs.Tables.{HasRow, HasRows, all_entries, entry_table, row_number}
 use Rattle.rs_query.specs.Views.{View}
 use Rattle.rs_query.specs.WellFormed.{IsBlock, IsColumn, IsConjunct, IsQuery, IsTerm, argument_columns, entries_mask}
 use Rattle.rs_query.proofs.ChoiceFacts.{In-choices-back, In-combinations-back}
 use Rattle.rs_query.proofs.EntryFacts.{argument_columns-args, items-inside, terms-inside}
 use Rattle.rs_query.proofs.ExtendFacts.{IsChoice-at}
-use Rattle.rs_query.proofs.GrowthFacts.{EntryGrows, entry-grows, rows_in}
+use Rattle.rs_query.proofs.GrowthFacts.{entry-grows, rows_in}
 use Rattle.rs_query.proofs.LocalFacts.{columns-have, map-same}
 
 -- tests that agree on each item keep the same ones

@@ -1,10 +1,9 @@
 -- When catalogues grow, and what is well formed in them stays so.
-use Rattle.std.proofs.Common.{ℕ, zero, suc, ◌≡◌, ◌∙◌, ◌-◌, ◌<◌, ◌≤◌, Bool, List, [], ◌∷◌, ◌++◌, Some, None, Option, Ok, Err, Result, length, length-append, append-nil, append_assoc, map, take, drop, refl, sym, ap, subst, arith}
+use Rattle.std.proofs.Common.{ℕ, zero, suc, ◌≡◌, ◌∙◌, ◌-◌, ◌<◌, ◌≤◌, Bool, List, [], ◌∷◌, ◌++◌, Some, None, Option, Ok, Err, Result, length, length-append, append-nil, append_assoc, map, drop, refl, sym, ap, subst, arith}
 use Rattle.std.specs.Prelude.{option_and_then, option_map, slice_get, unwrap_or}
 use Rattle.std.specs.List.{AllByRecursion}
 use Rattle.std.proofs.lemmas.List.{take-append-drop}
 use Rattle.std.proofs.lemmas.Option.{slice_get_within, unwrap_or-slice_get}
-use Rattle.rs_order.specs.Climbing.{In}
 use Rattle.rs_order.proofs.ClimbingFacts.{AllByRecursion-In}
 use Rattle.rs_order.proofs.EachFacts.{each-slice_get, each-weaker}
 use Rattle.rs_value.specs.declared.kind.Kind.{Kind}
@@ -14,7 +13,6 @@ use Rattle.rs_table.specs.Column.{Column}
 use Rattle.rs_table.specs.FirstRows.{first_rows}
 use Rattle.rs_table.specs.Lent.{with_rows}
 use Rattle.rs_table.specs.Relation.{Relation}
-use Rattle.rs_expr.specs.Predicates.{PredicateDef}
 use Rattle.rs_expr.specs.Scoring.{ScorerState}
 use Rattle.rs_expr.specs.Uses.{condition_uses, is_kind}
 use Rattle.rs_catalog.specs.Catalog.{CatalogDef, NamedTable, RankIndex}
@@ -33,7 +31,7 @@ use Rattle.rs_query.specs.Conjuncts.{ConjunctDef}
 use Rattle.rs_query.specs.Growth.{CatalogueGrows, HasRowsOf, IsSizes, IsViewOf}
 use Rattle.rs_query.specs.Tables.{entry_table, row_number, size_of, sizes_of}
 use Rattle.rs_query.specs.Views.{View, all_rows}
-use Rattle.rs_query.specs.WellFormed.{AreArgs, AreSetSides, IsArg, IsBlock, IsColumn, IsConjunct, IsFromEntry, IsQuery, IsTerm, column_kind, has_kind}
+use Rattle.rs_query.specs.WellFormed.{AreArgs, IsArg, IsBlock, IsColumn, IsConjunct, IsFromEntry, IsQuery, IsTerm, column_kind, has_kind}
 use Rattle.rs_query.proofs.ExtendFacts.{get_or-sizes_of}
 use Rattle.rs_query.proofs.LocalFacts.{map-same}
 

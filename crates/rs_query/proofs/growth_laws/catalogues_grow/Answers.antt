@@ -1,5 +1,4 @@
 use Rattle.std.proofs.Common.{subst}
-use Rattle.rs_catalog.specs.Catalog.{CatalogDef}
 use Rattle.rs_catalog.proofs.JoinedFacts.{joined-index, joined-predicate, joined-table, only_index, only_predicate, only_table}
 use Rattle.rs_query.specs.Growth.{CatalogueGrows}
 use Rattle.rs_query.proofs.GrowthFacts.{grows-by, grows-joined, grows-same, grows-snapshot, grows-steps}
