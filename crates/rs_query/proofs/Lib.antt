@@ -9,6 +9,8 @@ pub mod EquatedFacts
 pub mod ExtendFacts
 pub mod FreshFacts
 pub mod GoFacts
+pub mod GrownAnswerFacts
+pub mod GrowthFacts
 pub mod HoldFacts
 pub mod HoldNewFacts
 pub mod IndexTermFacts
