@@ -276,7 +276,7 @@ module _ (old new : CatalogDef) (grows : CatalogueGrows old new) where
   view-grows (Set op left right limit) view is = (sizes-grow left view.first is.0, sizes-grow right view.second is.1)
 
 -- all rows are a view
-IsSizes-all : (catalogue : CatalogDef) (block : Block) → IsBlock catalogue block → IsSizes catalogue block (sizes_of catalogue block)
+pub IsSizes-all : (catalogue : CatalogDef) (block : Block) → IsBlock catalogue block → IsSizes catalogue block (sizes_of catalogue block)
 IsSizes-all catalogue block is = record {
   all = is.most_entries;
   each = λ entry some last.

@@ -1,7 +1,8 @@
 //! What queries keep as their catalogue grows: laws that hold of every catalogue and query. The functions compute nothing; each
 //! is called for its contract.
 
-ghost use Rattle.std.specs.Prelude.{◌≡◌, ◌≤◌, ℕ, List, Result, true};
+ghost use Rattle.std.specs.Prelude.{◌≡◌, ◌≤◌, ℕ, List, Result, not, true};
+ghost use Rattle.std.specs.List.{filter};
 ghost use Rattle.rs_value.specs.declared.value.Value.{Value};
 ghost use Rattle.rs_table.specs.Relation.{Relation};
 ghost use Rattle.rs_order.specs.Climbing.{In};
@@ -14,11 +15,12 @@ ghost use Rattle.rs_catalog.specs.Snapshot.{snapshot};
 ghost use Rattle.rs_catalog.specs.declared.growth.GrowFault.{GrowFault};
 ghost use Rattle.rs_catalog.specs.declared.index.IndexDef.{IndexDef};
 ghost use Rattle.rs_query.specs.Answers.{answer_of, predicate_at, rows_of, scorer_answer, worth_of};
-ghost use Rattle.rs_query.specs.Combinations.{combinations, satisfies};
+ghost use Rattle.rs_query.specs.Combinations.{all_combinations, combinations, satisfies};
 ghost use Rattle.rs_query.specs.Conjuncts.{ConjunctDef};
+ghost use Rattle.rs_query.specs.Fresh.{has_new_row};
 ghost use Rattle.rs_query.specs.Growth.{CatalogueGrows, IsSizes, IsViewOf};
 ghost use Rattle.rs_query.specs.Meaning.{argument_values, conjunct_holds, is_inside, outputs_of};
-ghost use Rattle.rs_query.specs.Tables.{HasRows, size_of};
+ghost use Rattle.rs_query.specs.Tables.{HasRows, size_of, sizes_of};
 ghost use Rattle.rs_query.specs.Views.{View, all_rows};
 ghost use Rattle.rs_query.specs.WellFormed.{IsBlock, IsQuery, entries_mask};
 ghost use Rattle.rs_query.specs.declared.block.Block.{Block as Bound};
@@ -82,11 +84,14 @@ pub fn rows_keep_their_values()
         → outputs_of new block rows ≡ outputs_of old block rows }
 {}
 
-/// So a query keeps the combinations that it had under a view of its tables, the rows that these gave it, and its answer.
+/// So a query keeps the combinations that it had under a view of its tables, the rows that these gave it, and its answer. The
+/// combinations of all rows that there were are, of those that there are, the ones without a new row.
 pub fn queries_keep_their_rows()
     ensures combinations { (old new : CatalogDef) (block : Bound) (sizes : List ℕ) (mask : ℕ)
         → CatalogueGrows old new → IsBlock old block → IsSizes old block sizes
         → combinations new block sizes mask ≡ combinations old block sizes mask }
+    ensures fresh { (old new : CatalogDef) (block : Bound) → CatalogueGrows old new → IsBlock old block
+        → filter (λ rows. not (has_new_row (sizes_of old block) rows)) (all_combinations new block) ≡ all_combinations old block }
     ensures rows { (answer : Answering) (old new : CatalogDef) (query : BoundQuery) (view : View)
         → CatalogueGrows old new → IsQuery old query → IsViewOf old query view
         → rows_of answer new query view ≡ rows_of answer old query view }
