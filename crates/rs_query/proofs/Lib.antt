@@ -34,3 +34,4 @@ pub mod WalkFacts
 pub mod WeightFacts
 pub mod WithinFacts
 pub mod WorkedCombinations
+pub mod WorkedGrowth
