@@ -40,9 +40,9 @@ abbrev table_at : List NamedTable → ℕ → Option Relation
 table_at tables number = option_map (λ (t : NamedTable). t.table) (slice_get tables number)
 
 -- a table that was found begins with another one
-record Begins (found : Option Relation) (table : Relation) : Type 0 where
-  more : List (List Value)
-  there : found ≡ Some (with_rows more table)
+pub record Begins (found : Option Relation) (table : Relation) : Type 0 where
+  pub more : List (List Value)
+  pub there : found ≡ Some (with_rows more table)
 
 of-begins : (catalogue : CatalogDef) (number : ℕ) (table : Relation) → Begins (table_at catalogue.tables number) table → HasRowsOf catalogue number table
 of-begins catalogue number table begins = record { more = begins.more; there = begins.there }
@@ -138,13 +138,9 @@ rows_in found = unwrap_or (option_map (λ (table : Relation). length table.rows)
 module _ (old new : CatalogDef) (grows : CatalogueGrows old new) where
   module _ (block : Block) where
     -- the table of an entry begins with what it was
-    pub record EntryGrows (entry : ℕ) (table : Relation) : Type 0 where
-      pub more : List (List Value)
-      pub there : entry_table new block entry ≡ Some (with_rows more table)
-
-    pub entry-grows : (entry : ℕ) (table : Relation) → entry_table old block entry ≡ Some table → EntryGrows entry table
+    pub entry-grows : (entry : ℕ) (table : Relation) → entry_table old block entry ≡ Some table → Begins (entry_table new block entry) table
     entry-grows entry table at = go (slice_get block.from (entry - 1)) refl where
-      go : (found : Option (ℕ × List ℕ)) → slice_get block.from (entry - 1) ≡ found → EntryGrows entry table
+      go : (found : Option (ℕ × List ℕ)) → slice_get block.from (entry - 1) ≡ found → Begins (entry_table new block entry) table
       go (Some from) is =
           let named : table_at old.tables from.0 ≡ Some table = sym (ap (option_and_then (λ (f : ℕ × List ℕ). table_at old.tables f.0)) is) ∙ at in
           let has = grows.tables from.0 table named in
@@ -276,7 +272,7 @@ module _ (old new : CatalogDef) (grows : CatalogueGrows old new) where
   view-grows (Set op left right limit) view is = (sizes-grow left view.first is.0, sizes-grow right view.second is.1)
 
 -- all rows are a view
-IsSizes-all : (catalogue : CatalogDef) (block : Block) → IsBlock catalogue block → IsSizes catalogue block (sizes_of catalogue block)
+pub IsSizes-all : (catalogue : CatalogDef) (block : Block) → IsBlock catalogue block → IsSizes catalogue block (sizes_of catalogue block)
 IsSizes-all catalogue block is = record {
   all = is.most_entries;
   each = λ entry some last.

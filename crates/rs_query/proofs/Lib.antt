@@ -14,6 +14,7 @@ pub mod GrowthFacts
 pub mod HoldFacts
 pub mod HoldNewFacts
 pub mod IndexTermFacts
+pub mod KeptCombinations
 pub mod KeyFacts
 pub mod LentFacts
 pub mod LimitFacts
@@ -33,3 +34,4 @@ pub mod WalkFacts
 pub mod WeightFacts
 pub mod WithinFacts
 pub mod WorkedCombinations
+pub mod WorkedGrowth

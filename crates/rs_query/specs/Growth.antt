@@ -16,7 +16,8 @@ pub record HasRowsOf (catalogue : CatalogDef) (number : ℕ) (table : Relation) 
   pub more : List (List Value)
   pub there : option_map (λ t. t.table) (slice_get catalogue.tables number) ≡ Some (with_rows more table)
 
--- each table of a catalogue still has its rows in another one, and each predicate is there, both at their numbers
+-- each table of a catalogue still has its rows in another one, and each predicate is there, both at their numbers; what queries
+-- mean reads no index
 pub record CatalogueGrows (old new : CatalogDef) : Type 0 where
   pub tables : (number : ℕ) (table : Relation) → option_map (λ t. t.table) (slice_get old.tables number) ≡ Some table → HasRowsOf new number table
   pub predicates : (number : ℕ) (predicate : PredicateDef) → slice_get old.predicates number ≡ Some predicate → slice_get new.predicates number ≡ Some predicate

@@ -1,7 +1,8 @@
 //! What queries keep as their catalogue grows: laws that hold of every catalogue and query. The functions compute nothing; each
 //! is called for its contract.
 
-ghost use Rattle.std.specs.Prelude.{◌≡◌, ◌≤◌, ℕ, List, Result, true};
+ghost use Rattle.std.specs.Prelude.{◌≡◌, ◌≤◌, ℕ, List, Result, not, true};
+ghost use Rattle.std.specs.List.{filter};
 ghost use Rattle.rs_value.specs.declared.value.Value.{Value};
 ghost use Rattle.rs_table.specs.Relation.{Relation};
 ghost use Rattle.rs_order.specs.Climbing.{In};
@@ -14,19 +15,20 @@ ghost use Rattle.rs_catalog.specs.Snapshot.{snapshot};
 ghost use Rattle.rs_catalog.specs.declared.growth.GrowFault.{GrowFault};
 ghost use Rattle.rs_catalog.specs.declared.index.IndexDef.{IndexDef};
 ghost use Rattle.rs_query.specs.Answers.{answer_of, predicate_at, rows_of, scorer_answer, worth_of};
-ghost use Rattle.rs_query.specs.Combinations.{combinations, satisfies};
+ghost use Rattle.rs_query.specs.Combinations.{all_combinations, combinations, satisfies};
 ghost use Rattle.rs_query.specs.Conjuncts.{ConjunctDef};
+ghost use Rattle.rs_query.specs.Fresh.{has_new_row};
 ghost use Rattle.rs_query.specs.Growth.{CatalogueGrows, IsSizes, IsViewOf};
 ghost use Rattle.rs_query.specs.Meaning.{argument_values, conjunct_holds, is_inside, outputs_of};
-ghost use Rattle.rs_query.specs.Tables.{HasRows, size_of};
+ghost use Rattle.rs_query.specs.Tables.{HasRows, size_of, sizes_of};
 ghost use Rattle.rs_query.specs.Views.{View, all_rows};
 ghost use Rattle.rs_query.specs.WellFormed.{IsBlock, IsQuery, entries_mask};
 ghost use Rattle.rs_query.specs.declared.block.Block.{Block as Bound};
 ghost use Rattle.rs_query.specs.declared.query.Query.{Query as BoundQuery};
 ghost use Rattle.rs_query.specs.declared.term.Term.{Term as BoundTerm};
 
-/// A catalogue grows where rows join a table, or don't, and where a table, a predicate or an index joins; so it does from each of its
-/// snapshots to what it is, and by two steps as by one.
+/// A catalogue grows by a call that adds rows to a table, also where that fails and none joins, and where a table, a predicate or an
+/// index joins. Each of its snapshots grows to it. It grows to itself, and by two steps as by one.
 pub fn catalogues_grow()
     ensures rows { (old new : CatalogDef) (table : ℕ) (rows : List (List Value)) (result : Result (Unit {0}) GrowFault) (before after : ScorerState)
         → GrowsBy table rows old new result before after → CatalogueGrows old new }
@@ -39,8 +41,8 @@ pub fn catalogues_grow()
     ensures steps { (old middle new : CatalogDef) → CatalogueGrows old middle → CatalogueGrows middle new → CatalogueGrows old new }
 {}
 
-/// What is well formed in a catalogue is so in one that it grows to, and a view of a query is one of it there. All rows of the
-/// tables are a view.
+/// As a catalogue grows, blocks and queries stay well formed, entries have no fewer rows, and a view of a query stays one. All rows
+/// that the tables have are a view.
 pub fn queries_stay_formed()
     ensures block { (old new : CatalogDef) (block : Bound) → CatalogueGrows old new → IsBlock old block → IsBlock new block }
     ensures query { (old new : CatalogDef) (query : BoundQuery) → CatalogueGrows old new → IsQuery old query → IsQuery new query }
@@ -82,11 +84,14 @@ pub fn rows_keep_their_values()
         → outputs_of new block rows ≡ outputs_of old block rows }
 {}
 
-/// So a query keeps the combinations that it had under a view of its tables, the rows that these gave it, and its answer.
+/// So under a view of before a query keeps its combinations, the rows that these give it, and its answer. The combinations of all
+/// rows that the tables had are those of all rows that they have in which no row is new.
 pub fn queries_keep_their_rows()
     ensures combinations { (old new : CatalogDef) (block : Bound) (sizes : List ℕ) (mask : ℕ)
         → CatalogueGrows old new → IsBlock old block → IsSizes old block sizes
         → combinations new block sizes mask ≡ combinations old block sizes mask }
+    ensures fresh { (old new : CatalogDef) (block : Bound) → CatalogueGrows old new → IsBlock old block
+        → filter (λ rows. not (has_new_row (sizes_of old block) rows)) (all_combinations new block) ≡ all_combinations old block }
     ensures rows { (answer : Answering) (old new : CatalogDef) (query : BoundQuery) (view : View)
         → CatalogueGrows old new → IsQuery old query → IsViewOf old query view
         → rows_of answer new query view ≡ rows_of answer old query view }
