@@ -98,7 +98,7 @@ class Run:
     def __init__(self, files, scores, fails, seed, guesses=False):
         self.files, self.scores, self.fails, self.seed, self.guesses = files, scores, fails, seed, guesses
         self.sampled, self.indexed, self.first = 0, 0, None
-        self.tables, self.predicates, self.indexes, self.index_names, self.cursors = {}, {}, set(), set(), {}
+        self.tables, self.predicates, self.indexes, self.index_names, self.cursors = {}, {}, [], set(), {}
         self.made, self.put, self.fetched, self.puts = [], "", [], 0
 
     def answer(self, predicate, args):
@@ -199,6 +199,8 @@ class Run:
             self.create_predicate(words, place)
         elif words.skip("CREATE", "RANK", "INDEX"):
             self.create_index(words)
+        elif words.skip("INSERT", "INTO"):
+            self.insert(words, place)
         elif words.skip("EXPLAIN"):
             analyzes = words.skip("ANALYZE")
             query = read_query(words, self)
@@ -284,19 +286,46 @@ class Run:
         words.want("(")
         args = listed(words, total)
         words.want(")", ")")
-        if name not in self.tables or predicate not in self.predicates or any(a[0] != "column" for a in args):
+        if name not in self.tables or predicate not in self.predicates or any(a[0] == "column" and a[1] not in (None, name) for a in args):
             raise Unread
-        if index in self.index_names:
+        if index in self.index_names or all(a[0] != "column" for a in args) or len(args) != len(self.predicates[predicate].params):
             raise Unread
         self.index_names.add(index)
         table = self.tables[name]
-        places = [[c for c, _ in table.columns].index(a[2]) for a in args]
-        for number, row in enumerate(table.rows, 1):
-            got = self.score((predicate, tuple(row[place] for place in places)))
-            if not 0 <= got <= self.predicates[predicate].most:
-                self.bad(predicate, [number], got)
-        self.indexed += len(table.rows)
-        self.indexes.add((name, predicate, tuple(places)))
+        columns = [c for c, _ in table.columns]
+        places = tuple(columns.index(a[2]) if a[0] == "column" else ("value", value(a, None)) for a in args)
+        self.score_rows(predicate, places, 1, table.rows)
+        self.indexes.append((name, predicate, places))
+
+    def score_rows(self, predicate, places, first, rows):
+        """The calls of an index for rows, of which the first one has this number."""
+        begun = len(self.made)
+        for number, row in enumerate(rows, first):
+            self.check((predicate, tuple(p[1] if isinstance(p, tuple) else row[p] for p in places)), [number], self.predicates[predicate].most)
+        self.indexed += len(self.made) - begun
+
+    def insert(self, words, place):
+        name_place, name = words.place(), words.take()
+        words.want("VALUES")
+        rows = listed(words, read_row)
+        if words.next() is not None:
+            raise Unread
+        if name not in self.tables:
+            refuse("NoTable", place + name_place)
+        table = self.tables[name]
+        for number, (row_place, cells) in enumerate(rows, len(table.rows) + 1):
+            if number > MOST_ROWS:
+                refuse("LimitOf", place + row_place)
+            if len(cells) != len(table.columns):
+                refuse("WrongCount", place + row_place)
+            for (cell_place, cell), (_, kind) in zip(cells, table.columns):
+                if isinstance(cell, int) != kind.startswith("INT"):
+                    refuse("WrongKind", place + cell_place)
+        new = [[cell for _, cell in cells] for _, cells in rows]
+        for of, predicate, places in self.indexes:
+            if of == name:
+                self.score_rows(predicate, places, len(table.rows) + 1, new)
+        self.tables[name] = Table(table.columns, table.rows + new)
 
     def script(self, name):
         text = re.sub("--[^\n]*", "", self.fetch(name, MOST_OF_A_SCRIPT).removeprefix("\ufeff"))
@@ -388,8 +417,32 @@ def records(text):
 
 
 def statements(text):
-    """The statements of a script, each with the bytes in front of it."""
-    return [(part.start(), part[0]) for part in re.finditer(r"[^;\s][^;]*", text)]
+    """The statements of a script, each with the number of bytes in front of it."""
+    parts = re.finditer(r"(?:'(?:[^']|'')*'|[^;\s])(?:'(?:[^']|'')*'|[^;])*", text)
+    return [(len(bytes_of(text[: part.start()])), part[0]) for part in parts]
+
+
+def read_row(words):
+    """A row of an INSERT: its place, and each value with its own."""
+    place = words.place()
+    words.want("(")
+    cells = listed(words, read_value)
+    words.want(")")
+    return place, cells
+
+
+def read_value(words):
+    place, negated, word = words.place(), words.skip("-"), words.take()
+    if word.isdigit():
+        return place, -int(word) if negated else int(word)
+    if negated or not word.startswith("'"):
+        raise Unread
+    return place, word[1:-1].replace("''", "'")
+
+
+def refuse(rule, place):
+    """Ends a run at a statement that breaks this rule of names and types."""
+    raise Ended("Script", f"script: bind {rule} at {place}")
 
 
 # ---- the cases
