@@ -54,7 +54,7 @@ class Case:
         self.most = self.draw.choice([3, 9, 10, 12])
         self.files = {f"{name}.csv": self.table(columns) for name, columns in TABLES.items()}
         tables = [f"CREATE TABLE {name} ({', '.join(columns)}) FROM '{name}.csv';" for name, columns in TABLES.items()]
-        self.indexes = 0
+        self.indexes, self.favourite = 0, self.draw.choice(list(TABLES))
         front = tables + [text for _, text in PREDICATES.values()] + [self.index() for _ in range(self.draw.randrange(4))]
         self.open = []
         script = front + [self.statement() for _ in range(self.draw.randrange(1, 12))]
@@ -86,24 +86,29 @@ class Case:
         args = [self.column(entries) if self.draw.random() < 0.85 else str(self.draw.randrange(9)) for _ in range(count)]
         return f"{name}({self.column(entries) if count == 1 else ', '.join(args)})"
 
+    def grown(self):
+        """The table of an index or an INSERT: one of them often, so that it has several indexes as rows join it."""
+        return self.draw.choice(list(TABLES) + [self.favourite] * 4)
+
     def index(self):
-        table = self.draw.choice(list(TABLES))
+        table = self.grown()
         self.indexes += 1
         return f"CREATE RANK INDEX i{self.indexes} ON {table} ({self.call([(table, table)])});"
 
     def insert(self):
-        table = self.draw.choice(list(TABLES))
-        return f"INSERT INTO {table} VALUES {', '.join(self.row(TABLES[table]) for _ in range(self.draw.choice([1, 1, 2, 3])))};"
+        table = self.grown()
+        most = self.most if self.draw.random() < 0.8 else 14  # where many scores are bad, the order of the calls shows
+        return f"INSERT INTO {table} VALUES {', '.join(self.row(TABLES[table], most) for _ in range(self.draw.choice([1, 1, 2, 3])))};"
 
-    def row(self, columns):
+    def row(self, columns, most):
         """A row of an INSERT. One of a hundred has a value too many, and one value of a hundred is of another kind."""
         kinds = [column.split()[1] for column in columns] + ["INT"] * (self.draw.random() < 0.01)
-        return f"({', '.join(self.written(kind if self.draw.random() < 0.99 else 'TEXT') for kind in kinds)})"
+        return f"({', '.join(self.written(kind if self.draw.random() < 0.99 else 'TEXT', most) for kind in kinds)})"
 
-    def written(self, kind):
+    def written(self, kind, most):
         if kind == "TEXT":
             return self.draw.choice(["'a'", "'b'", "'c,d'", "'e\"f'", "''", "'\u00e9'", "'it''s'", "'x; y'"])
-        number = self.draw.randrange(self.most + 1)
+        number = self.draw.randrange(most + 1)
         return self.draw.choice([str(number)] * 20 + [f"-{number}", f"- {number}", f"00{number}", "4000000000000000000"])
 
     def condition(self, entries):

@@ -263,6 +263,11 @@ def cursors():
     prints("an index that is made behind its DECLARE", later + "CREATE RANK INDEX qy ON t (q(y)); FETCH 1 FROM k; INSERT INTO t VALUES (9, 10), (10, 10); FETCH 9 FROM k;", *pages)
     prints("an index that is made behind the INSERT", later + "INSERT INTO t VALUES (9, 10), (10, 10); CREATE RANK INDEX qy ON t (q(y)); FETCH 9 FROM k; SELECT x FROM t ORDER BY q(y) LIMIT 3;", *pages, "1,10,2", "2,10,9", "3,10,10")
     ends("a cursor over no index sees no bad score of a new row", f"{FRONT}DECLARE k CURSOR FOR {BEST}; INSERT INTO t VALUES (10, 99); FETCH 1 FROM k; {BEST};", 7, "score: q rows 5: 99 is not in 0..10", "1,17,8,9")
+    # By the plan of its DECLARE p is called on both rows, and q on the best one then. By an index of q the bad score isn't needed.
+    write("far.csv", "x,y\n10,9\n-5,0\n")
+    front = FRONT.replace("t.csv", "far.csv").replace("CREATE RANK INDEX px ON t (p(x));\n", "")
+    script = f"{front}DECLARE k CURSOR FOR {BEST} LIMIT 1; CREATE RANK INDEX qy ON t (q(y)); {BEST} LIMIT 1; FETCH 1 FROM k;"
+    tell("an index that is made behind its DECLARE changes no call of a cursor", difference(script, (7, "1,19,10,9\n", "score: p rows 2: -5 is not in 0..10\n"), [["run", "s.sql", "1"]]))
     ends("a bad score ends the run with its cursors", later + "INSERT INTO t VALUES (11, 1); FETCH 1 FROM k;", 7, "score: p rows 5: 11 is not in 0..10", "1,17,8,9")
 
 
