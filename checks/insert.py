@@ -2,7 +2,8 @@
 a statement and of a table and one more, indexes whose calls fail one after another, and rows that join while 64 cursors are open.
 Each script has to end and print the same under both words. See insert.sh, which calls this.
 
-What is wanted was worked out by hand, or by sorting rows here. It prints a line `ok` for each case, or what differs, and ends
+What is wanted was worked out by hand, or by sorting rows here. Calls are counted by the program count_calls, where it is built; it is
+crates/count_calls/out/count_calls, or the one that the variable COUNT_CALLS names. It prints a line `ok` for each case, or what differs, and ends
 with 1 where one fails.
 """
 
@@ -14,6 +15,7 @@ import tempfile
 
 ROOT = os.path.dirname(os.path.dirname(os.path.abspath(__file__)))
 PROGRAM = os.environ.get("RANKSQL") or f"{ROOT}/crates/ranksql/out/ranksql"
+COUNTER = os.environ.get("COUNT_CALLS") or f"{ROOT}/crates/count_calls/out/count_calls"
 SECONDS = 120
 SEEDS = ["1", "2", "18446744073709551615"]
 MOST_ROWS = 131_072
@@ -52,10 +54,10 @@ def write(name, content):
         file.write(content)
 
 
-def run(words):
+def run(words, program=PROGRAM):
     """The status of a run, what it put, and its line on standard error."""
     try:
-        done = subprocess.run([PROGRAM, *words], stdin=subprocess.DEVNULL, capture_output=True, timeout=SECONDS, check=False)
+        done = subprocess.run([program, *words], stdin=subprocess.DEVNULL, capture_output=True, timeout=SECONDS, check=False)
     except subprocess.TimeoutExpired:
         return "no end", "", ""
     return done.returncode, done.stdout.decode(), done.stderr.decode()
@@ -63,6 +65,14 @@ def run(words):
 
 def shortened(told):
     return tuple(it[:200] + "..." if isinstance(it, str) and len(it) > 200 else it for it in told)
+
+
+def counts(name, script, calls):
+    """A script of which every run makes so many calls."""
+    if os.access(COUNTER, os.X_OK):
+        write("s.sql", script)
+        told = [run(words, COUNTER) for words in (["plain", "s.sql"], ["run", "s.sql", "1"])]
+        tell(name, "" if {(status, line) for status, _, line in told} == {(0, f"calls {calls}\n")} else f"got {told}")
 
 
 def difference(script, wanted, words=None):
@@ -234,6 +244,11 @@ def calls():
     ends("a score below 0", front + "(1, 2), (1, -2);", 7, "score: q rows 6: -2 is not in 0..10", "1,17,8,9")
     prints("no bad score where no index is, and no query asks for it", f"{FRONT}INSERT INTO t VALUES (10, 99); SELECT y FROM t WHERE y < 11 ORDER BY q(y) LIMIT 1;", "1,10,10")
     prints("another table's index isn't asked", f"{FRONT}CREATE TABLE u (x INT, y INT) FROM 't.csv'; INSERT INTO u VALUES (11, 1); SELECT y FROM u WHERE x < 11 ORDER BY p(x) LIMIT 1;", "1,10,3")
+    # The index of the front takes four calls, and so does one of y.
+    counts("an INSERT calls each index once a row", f"{FRONT}INSERT INTO t VALUES (9, 10), (1, 1);", 6)
+    counts("two indexes", f"{FRONT}CREATE RANK INDEX qy ON t (q(y)); INSERT INTO t VALUES (9, 10), (1, 1), (2, 2);", 14)
+    counts("two indexes of the same scores", f"{FRONT}CREATE RANK INDEX px2 ON t (p(x)); INSERT INTO t VALUES (9, 10);", 10)
+    counts("no index of the table", f"{FRONT}CREATE TABLE u (x INT, y INT) FROM 't.csv'; INSERT INTO u VALUES (9, 10);", 4)
     # Each of the ten calls of an INSERT of five rows fails in turn, and then each pair of them.
     differs = ""
     for first in range(10):
@@ -268,6 +283,11 @@ def cursors():
     front = FRONT.replace("t.csv", "far.csv").replace("CREATE RANK INDEX px ON t (p(x));\n", "")
     script = f"{front}DECLARE k CURSOR FOR {BEST} LIMIT 1; CREATE RANK INDEX qy ON t (q(y)); {BEST} LIMIT 1; FETCH 1 FROM k;"
     tell("an index that is made behind its DECLARE changes no call of a cursor", difference(script, (7, "1,19,10,9\n", "score: p rows 2: -5 is not in 0..10\n"), [["run", "s.sql", "1"]]))
+    write("k.csv", "x,y,z\n10,10,5\n9,1,5\n8,1,5\n1,1,5\n0,1,99\n")
+    script = """CREATE TABLE g (x INT, y INT, z INT) FROM 'k.csv'; CREATE PREDICATE p (v INT) MAX 10 COST 100 AS v; CREATE PREDICATE r (v INT) MAX 10 AS v;
+CREATE PREDICATE s (v INT) MAX 100 COST 20 AS v; CREATE RANK INDEX gx ON g (p(x)); CREATE RANK INDEX gy ON g (s(y));
+DECLARE k CURSOR FOR SELECT x, y, z FROM g ORDER BY p(x) + r(z) + s(y) LIMIT 1; INSERT INTO g VALUES (0, 60, 0); FETCH 1 FROM k;"""
+    tell("a great score that joins makes a cursor look no further", difference(script, (0, "1,25,10,10,5\n", ""), [["run", "s.sql", seed] for seed in SEEDS]))
     ends("a bad score ends the run with its cursors", later + "INSERT INTO t VALUES (11, 1); FETCH 1 FROM k;", 7, "score: p rows 5: 11 is not in 0..10", "1,17,8,9")
 
 

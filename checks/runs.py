@@ -3,7 +3,7 @@
 
 Queries, their plans and their calls are those of queries.py. The cases that it can't read stay as they are: those in which a
 name, a type or a file of a script is refused, and words of no form. Of refused scripts it reads those that pass a limit or
-aren't UTF-8. This makes the cases anew, at the top of the repository:
+aren't UTF-8, and those whose INSERT is refused. This makes the cases anew, at the top of the repository:
 
     cases=crates/cases_runs
     python3 checks/runs.py <$cases/stdout >cases.new && mv cases.new $cases/stdout && grep -v '^  ' $cases/stdout >$cases/stdin
@@ -496,7 +496,7 @@ def main():
                 at += 1
             try:
                 words = rest if word == "run" else f"guess {rest}"
-                new = list(told(written(words).split(" "), files, scores, fails)) if can_be_read(words, old) else old
+                new = list(told(written(words).split(" "), files, scores, fails)) if can_be_read(words, old, files) else old
             except Unread:
                 print(f"unread: {files['s.sql'][len(front):]}", file=sys.stderr)
                 new = old
@@ -507,13 +507,19 @@ def main():
 READ = "NotUtf8|lex NumberTooWide|lex TooManyTokens|parse TooManyStatements|parse TooDeep|catalogue Full"
 
 
-def can_be_read(words, old):
-    """Whether a run of these words can be read, which ended so. Of scripts that are refused, only those that pass a limit can."""
+def can_be_read(words, old, files):
+    """Whether a run of these words can be read, which ended so. Of scripts that are refused, only those can that pass a limit or whose INSERT is."""
     if not re.fullmatch(r"top \S+ \S+ \d+ \d+|plain \S+|(run|guess) \S+ \d+|gen \d+ \d+", words) or "  Usage" in old:
         return False
     if words.startswith("top ") or not set(old) & {"  Script", "  Table"}:
         return True
-    return any(re.match(f"  err script: ({READ}) ", line) for line in old)
+    return any(re.match(f"  err script: ({READ}) ", line) or is_of_insert(line, files[words.split()[1]]) for line in old)
+
+
+def is_of_insert(line, text):
+    """Whether a line tells of an INSERT that breaks a rule of names and types."""
+    told = re.match(r"  err script: bind \w+ at (\d+)", line)
+    return told is not None and [part for start, part in statements(text) if start <= int(told[1])][-1].startswith("INSERT")
 
 
 def told(words, files, scores, fails):
