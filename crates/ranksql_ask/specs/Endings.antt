@@ -9,6 +9,7 @@ use Rattle.rs_outside.specs.Files.{FilesTold}
 use Rattle.rs_run.specs.Words.{Form}
 use Rattle.rs_scores.specs.Known.{Known}
 use Rattle.rs_ask.specs.Asking.{AskingState, Ends, PutsBytes, StopsAfter}
+use Rattle.rs_ask.specs.Stops.{StopsAt}
 use Rattle.rs_ask.specs.declared.asked.Asked.{Asked}
 use Rattle.rs_ask.specs.declared.pass.Pass.{Pass}
 use Rattle.rs_ask.specs.declared.stop.Stop.{Stop}
@@ -90,9 +91,17 @@ pub record Runs (form : Form) (answer : ℕ) (out rows : Outside (List (List ℕ
   pub put : PutsBytes (concat asked.pass.out.pieces) out rows
   pub tells : Tells (end_lines asked known) asked.pass.status answer err told
 
--- words of no form are refused. Other words are refused for what is outside, or runs are made; these end with one of them, or are stopped
+-- what had been put on standard output of a run of words of this form is as the stop says, and what stopped it was told
+pub record Stops (form : Form) (answer : ℕ) (out rows : Outside (List (List ℕ))) (err told : ErrorLines) : Type 0 where
+  pub stop : Stop
+  pub run : Pass
+  pub pass : IsPassOf form run
+  pub put : (bytes : List ℕ) × PutsBytes bytes out rows × StopsAt stop run.lacked_memory bytes (concat run.out.pieces)
+  pub tells : Tells (stop_line stop ∷ []) (stop_status stop) answer err told
+
+-- words of no form are refused. Other words are refused for what is outside, or runs are made; these end with one of them, or are stopped behind one
 abbrev pub Commands : Option Form → ℕ → Outside (List (List ℕ)) → Outside (List (List ℕ)) → ErrorLines → ErrorLines → Type 0
 Commands None answer out rows err told = Refuses Usage answer out rows err told
 Commands (Some form) answer out rows err told =
     ((fault : AskFault) × (fault ≢ Usage) × Refuses fault answer out rows err told)
-    ⊎ (Runs form answer out rows err told ⊎ ((stop : Stop) × Tells (stop_line stop ∷ []) (stop_status stop) answer err told))
+    ⊎ (Runs form answer out rows err told ⊎ Stops form answer out rows err told)

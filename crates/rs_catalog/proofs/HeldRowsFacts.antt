@@ -179,7 +179,14 @@ module _ (answer : Answering) (catalogue : CatalogDef) (table : ℕ) (rows : Lis
     go true is = holds-own number index made (eqb-true index.def.table table is) held e
     go false is = holds-other number index made (eqb-false index.def.table table is) held e
 
--- so they do all, whatever comes of it, for the scorer behind the calls
+-- so they do all where rows joined
+pub held-grown : (answer : Answering) (catalogue : CatalogDef) (table : ℕ) (rows : List (List Value)) (indexes : List RankIndex) → CanJoin catalogue table rows → IndexesHold answer catalogue
+    → (growing answer catalogue table rows).outcome ≡ Ok indexes → IndexesHold answer (grown table rows indexes catalogue)
+held-grown answer catalogue table rows indexes join held gives =
+    in_turn-each (growing_index answer catalogue table rows) (IndexHolds answer catalogue) (IndexHolds answer (grown table rows indexes catalogue))
+    (holds-each answer catalogue table rows join indexes) 0 catalogue.indexes indexes held gives
+
+-- and whatever comes of it, for the scorer behind the calls
 pub held-grows : (catalogue new : CatalogDef) (table : ℕ) (rows : List (List Value)) (result : Result (Unit {0}) GrowFault) (before after : ScorerState) → CanJoin catalogue table rows
     → IndexesHold before.answer catalogue → GrowsBy table rows catalogue new result before after → IndexesHold after.answer new
 held-grows catalogue new table rows result before after join held grows =
@@ -190,8 +197,6 @@ held-grows catalogue new table rows result before after join held grows =
           ⊎ InquiryStops Memory (growing before.answer catalogue table rows) indexes before after
           → IndexesHold before.answer (catalogue_grown table rows indexes catalogue)
       go (Err fault) comes = held
-      go (Ok indexes) (inl (inl ends)) =
-          in_turn-each (growing_index before.answer catalogue table rows) (IndexHolds before.answer catalogue) (IndexHolds before.answer (grown table rows indexes catalogue))
-          (holds-each before.answer catalogue table rows join indexes) 0 catalogue.indexes indexes held (sym ends.gives)
+      go (Ok indexes) (inl (inl ends)) = held-grown before.answer catalogue table rows indexes join held (sym ends.gives)
       go (Ok indexes) (inl (inr fails)) = let gives = fails.gives in cc
       go (Ok indexes) (inr stops) = let gives = stops.gives in cc

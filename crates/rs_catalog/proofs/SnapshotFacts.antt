@@ -14,7 +14,7 @@ use Rattle.rs_order.proofs.EachFacts.{each-map, each-weaker}
 use Rattle.rs_rank.specs.declared.scored_row.ScoredRow.{ScoredRow}
 use Rattle.rs_catalog.specs.After.{entries_within}
 use Rattle.rs_catalog.specs.Catalog.{CatalogDef, NamedTable, RankIndex, with_index, with_table}
-use Rattle.rs_catalog.specs.Growing.{GrowsBy, catalogue_grown, growing, growing_index, in_turn, scorings_new, with_entries, with_rows_in}
+use Rattle.rs_catalog.specs.Growing.{GrowsBy, catalogue_grown, grown, growing, growing_index, in_turn, scorings_new, with_entries, with_rows_in}
 use Rattle.rs_catalog.specs.IndexesHold.{IndexHolds, IndexesHold}
 use Rattle.rs_catalog.specs.Indexes.{IsRanking, args_in, making_of, predicate_for, rows_for}
 use Rattle.rs_catalog.specs.Snapshot.{HaveRows, index_at, size_at, sizes_in, snapshot, tables_at}
@@ -138,7 +138,7 @@ tables_at-with_rows (count ∷ sizes) zero rows (named ∷ tables) have =
     ap (λ (first : List (List Value)). record named { table = record named.table { rows = first } } ∷ tables_at sizes tables) (take-append-le count named.table.rows rows have.0)
 tables_at-with_rows (count ∷ sizes) (suc place) rows (named ∷ tables) have = ap (λ (rest : List NamedTable). named_at count named ∷ rest) (tables_at-with_rows sizes place rows tables have.1)
 
-HaveRows-with_rows : (sizes : List ℕ) (place : ℕ) (rows : List (List Value)) (tables : List NamedTable) → HaveRows sizes tables → HaveRows sizes (with_rows_in place rows tables)
+pub HaveRows-with_rows : (sizes : List ℕ) (place : ℕ) (rows : List (List Value)) (tables : List NamedTable) → HaveRows sizes tables → HaveRows sizes (with_rows_in place rows tables)
 HaveRows-with_rows [] place rows tables have = tt
 HaveRows-with_rows (count ∷ sizes) place rows [] have = absurd have
 HaveRows-with_rows (count ∷ sizes) zero rows (named ∷ tables) have = ((let some = have.0 in omega (arith, some, length-append named.table.rows rows)), have.1)
@@ -187,6 +187,14 @@ module _ (sizes : List ℕ) (answer : Answering) (catalogue : CatalogDef) (table
         let same : index ≡ made = cc in
         ap (index_at sizes) (sym same)
 
+pub snapshot-joined : (sizes : List ℕ) (answer : Answering) (catalogue : CatalogDef) (table : ℕ) (rows : List (List Value)) (indexes : List RankIndex) → HaveRows sizes catalogue.tables
+    → IndexesHold answer catalogue → (growing answer catalogue table rows).outcome ≡ Ok indexes → snapshot sizes (grown table rows indexes catalogue) ≡ snapshot sizes catalogue
+snapshot-joined sizes answer catalogue table rows indexes have held gives =
+    let tables = tables_at-with_rows sizes table rows catalogue.tables have in
+    let same = in_turn-map (growing_index answer catalogue table rows) (IndexHolds answer catalogue) (index_at sizes) (index_at sizes)
+    (index_at-grown sizes answer catalogue table rows have) 0 catalogue.indexes indexes held gives in
+    λ i. record { tables = tables i; predicates = catalogue.predicates; indexes = same i }
+
 pub snapshot-grown : (sizes : List ℕ) (catalogue new : CatalogDef) (table : ℕ) (rows : List (List Value)) (result : Result (Unit {0}) GrowFault) (before after : ScorerState)
     → HaveRows sizes catalogue.tables → IndexesHold before.answer catalogue → GrowsBy table rows catalogue new result before after → snapshot sizes new ≡ snapshot sizes catalogue
 snapshot-grown sizes catalogue new table rows result before after have held grows =
@@ -196,11 +204,7 @@ snapshot-grown sizes catalogue new table rows result before after have held grow
           ⊎ InquiryStops Memory (growing before.answer catalogue table rows) indexes before after
           → snapshot sizes (catalogue_grown table rows indexes catalogue) ≡ snapshot sizes catalogue
       go (Err fault) comes = refl
-      go (Ok indexes) (inl (inl ends)) =
-          let tables = tables_at-with_rows sizes table rows catalogue.tables have in
-          let same = in_turn-map (growing_index before.answer catalogue table rows) (IndexHolds before.answer catalogue) (index_at sizes) (index_at sizes)
-          (index_at-grown sizes before.answer catalogue table rows have) 0 catalogue.indexes indexes held (sym ends.gives) in
-          λ i. record { tables = tables i; predicates = catalogue.predicates; indexes = same i }
+      go (Ok indexes) (inl (inl ends)) = snapshot-joined sizes before.answer catalogue table rows indexes have held (sym ends.gives)
       go (Ok indexes) (inl (inr fails)) = let gives = fails.gives in cc
       go (Ok indexes) (inr stops) = let gives = stops.gives in cc
 

@@ -3,6 +3,7 @@
 use Rattle.std.proofs.Common.{ℕ, ◌≡◌, List, [], ◌∷◌, length, refl, sym, ap, subst, inl}
 use Rattle.std.specs.Prelude.{Option, Result, Ok, Err, zero, suc}
 use Rattle.rs_value.specs.Results.{◌>>=◌}
+use Rattle.rs_value.specs.declared.value.Value.{Value}
 use Rattle.rs_expr.specs.Scoring.{Answering}
 use Rattle.rs_rank.specs.declared.answer.Answer.{Answer}
 use Rattle.rs_rank.specs.declared.scored_row.ScoredRow.{ScoredRow}
@@ -12,22 +13,26 @@ use Rattle.rs_table.specs.Reading.{table_of}
 use Rattle.rs_table.specs.Relation.{Relation}
 use Rattle.rs_expr.specs.Predicates.{PredicateDef}
 use Rattle.rs_catalog.specs.After.{entries_within}
-use Rattle.rs_catalog.specs.Catalog.{CatalogDef, room_for, with_index, with_predicate, with_table}
+use Rattle.rs_catalog.specs.Catalog.{CatalogDef, RankIndex, room_for, with_index, with_predicate, with_table}
+use Rattle.rs_catalog.specs.Growing.{CanJoin, grown, growing}
 use Rattle.rs_catalog.specs.Indexes.{IsIndex, making, predicate_for}
+use Rattle.rs_catalog.specs.declared.growth.GrowFault.{GrowFault}
 use Rattle.rs_catalog.specs.declared.index.IndexDef.{IndexDef}
 use Rattle.rs_catalog.specs.declared.index.IndexFault.{IndexFault}
 use Rattle.rs_catalog.specs.declared.room.What.{What}
 use Rattle.rs_catalog.specs.declared.room.What.TheVariants as what
-use Rattle.rs_syntax.specs.Syntax.{Command, CreateTable, CreatePredicate, CreateRankIndex, Ask, Declare, Fetch, Close, Explain, ExplainAnalyze}
+use Rattle.rs_syntax.specs.Syntax.{Command, CreateTable, CreatePredicate, CreateRankIndex, Ask, Declare, Fetch, Close, Explain, ExplainAnalyze, Insert}
 use Rattle.rs_syntax.specs.Syntax as syntax
 use Rattle.rs_syntax.specs.Written.{IsWritten}
 use Rattle.rs_syntax.specs.declared.name.Name.{Name}
 use Rattle.rs_bind.specs.Indexes.{index_def_of}
+use Rattle.rs_bind.specs.Inserts.{insert_of}
 use Rattle.rs_bind.specs.Names.{columns_of}
 use Rattle.rs_bind.specs.Predicates.{predicate_of}
 use Rattle.rs_bind.specs.Queries.{bound_query}
 use Rattle.rs_typing.specs.declared.fault.BindFault.{BindFault}
 use Rattle.rs_bind.proofs.IndexFacts.{IsIndex-given}
+use Rattle.rs_bind.proofs.InsertFacts.{CanJoin-given}
 use Rattle.rs_query.specs.Answers.{limit_of}
 use Rattle.rs_query.specs.Views.{all_rows}
 use Rattle.rs_query.specs.declared.query.Query.{Query}
@@ -41,13 +46,15 @@ use Rattle.rs_exec.specs.Cursors.{CursorState, StandsFor}
 use Rattle.rs_catalog.specs.IndexesHold.{IndexesHold}
 use Rattle.rs_catalog.specs.Snapshot.{HaveRows, size_at, snapshot}
 use Rattle.rs_catalog.proofs.HeldFacts.{held-with_index, held-with_predicate, held-with_table}
-use Rattle.rs_catalog.proofs.SnapshotFacts.{HaveRows-push, snapshot-with_index, snapshot-with_table}
+use Rattle.rs_catalog.proofs.HeldRowsFacts.{held-grown}
+use Rattle.rs_catalog.proofs.SnapshotFacts.{HaveRows-push, HaveRows-with_rows, snapshot-joined, snapshot-with_index, snapshot-with_table}
 use Rattle.rs_statement.specs.declared.sampling.Sampling.{Sampling}
 use Rattle.rs_statement.specs.declared.evaluating.Evaluating.{Evaluating}
 use Rattle.rs_statement.specs.declared.evaluating.Evaluating.TheVariants.{Planned, Plainly}
 use Rattle.rs_statement.specs.declared.fault.Fault.{Fault}
 use Rattle.rs_statement.specs.Content.{content_of, or_table_fault, table_limit}
 use Rattle.rs_statement.specs.Faults.{or_index_fault}
+use Rattle.rs_statement.specs.Inserts.{grow_fault, grow_outcome, insert_step}
 use Rattle.rs_statement.specs.declared.session.CursorRows.{CursorRows}
 use Rattle.rs_statement.specs.declared.session.CursorRows.TheVariants as held
 use Rattle.rs_statement.specs.Parts.Session.{CanAllBeAsked, CanBeAsked}
@@ -55,7 +62,7 @@ use Rattle.rs_statement.specs.Planned.{ask_count, ask_step, asks_from, plan_for,
 use Rattle.rs_events.specs.Events.{Finds}
 use Rattle.rs_statement.specs.Steps.{Step}
 use Rattle.rs_events.specs.Sequence.{silent, then_step}
-use Rattle.rs_statement.specs.Statements.{Does, DoesTable, analyze_step, analyzed_step, explain_outcome, explain_step, explained_step, index_step, or_bind_fault, or_room_fault, predicate_outcome, query_outcome, query_step, refused_or, select_step, table_step, with_room}
+use Rattle.rs_statement.specs.Statements.{Does, DoesTable, analyze_step, analyzed_step, bind_fault, explain_outcome, explain_step, explained_step, index_step, or_bind_fault, or_room_fault, predicate_outcome, query_outcome, query_step, refused_or, select_step, table_step, with_room}
 use Rattle.rs_statement.proofs.AnalyzeSteps.{analyzed_lines}
 
 -- what a step that went well gave, and what went on from it
@@ -66,7 +73,8 @@ Ok-then (Err fault) next b e = absurd cc
 module _ (answer : Answering) (catalogue : CatalogDef) (P : CatalogDef → Type 0) (here : P catalogue)
     (tables : (name : List ℕ) (table : Relation) → P (with_table name table catalogue))
     (predicates : (predicate : PredicateDef) → P (with_predicate predicate catalogue))
-    (indexes : (def : IndexDef) (ranking : List ScoredRow) → IsIndex catalogue def → (making answer catalogue def).outcome ≡ Ok ranking → P (with_index def ranking catalogue)) where
+    (indexes : (def : IndexDef) (ranking : List ScoredRow) → IsIndex catalogue def → (making answer catalogue def).outcome ≡ Ok ranking → P (with_index def ranking catalogue))
+    (rows : (table : ℕ) (joining : List (List Value)) (made : List RankIndex) → CanJoin catalogue table joining → (growing answer catalogue table joining).outcome ≡ Ok made → P (grown table joining made catalogue)) where
   -- what a statement leaves
   abbrev Leaves : Result CatalogDef Fault → Type 0
   Leaves outcome = (next : CatalogDef) → outcome ≡ Ok next → P next
@@ -114,6 +122,18 @@ module _ (answer : Answering) (catalogue : CatalogDef) (P : CatalogDef → Type 
           well : (outcome : Result (List ScoredRow) IndexFault) (ranking : List ScoredRow) → or_index_fault (predicate_for catalogue def).name outcome ≡ Ok ranking → outcome ≡ Ok ranking
           well (Ok entries) ranking e = let same : entries ≡ ranking = cc in ap Ok same
           well (Err why) ranking e = absurd cc
+
+  leaves-joined : (table : ℕ) (joining : List (List Value)) (outcome : Result (List RankIndex) GrowFault) → CanJoin catalogue table joining
+      → (growing answer catalogue table joining).outcome ≡ outcome → Leaves (grow_outcome catalogue table joining outcome)
+  leaves-joined table joining (Ok made) join gives = λ next e. let same : grown table joining made catalogue ≡ next = cc in subst P same (rows table joining made join gives)
+  leaves-joined table joining (Err fault) join gives = leaves-none (grow_fault catalogue fault)
+
+  leaves-insert : (command : Command) → IsWritten command → Leaves (refused_or (insert_step answer catalogue) (or_bind_fault (insert_of catalogue command))).outcome
+  leaves-insert command written = go (insert_of catalogue command) refl where
+    go : (bound : Result (ℕ × List (List Value)) BindFault) → insert_of catalogue command ≡ bound → Leaves (refused_or (insert_step answer catalogue) (or_bind_fault bound)).outcome
+    go (Ok joining) is =
+        leaves-joined joining.0 joining.1 (growing answer catalogue joining.0 joining.1).outcome (CanJoin-given catalogue command joining written (inl (sym is))) refl
+    go (Err fault) is = leaves-none (bind_fault fault)
 
   leaves-then : (first next : Step CatalogDef) → Leaves next.outcome → Leaves (then_step first next).outcome
   leaves-then first next later = go first.outcome where
@@ -179,13 +199,15 @@ module _ (answer : Answering) (catalogue : CatalogDef) (P : CatalogDef → Type 
   kept-step finds evaluating (Close name) step next written does = absurd does
   kept-step finds evaluating (Explain query) step next written does = subst (λ (s : Step CatalogDef). Leaves s.outcome) (sym does) (leaves-explain evaluating query) next
   kept-step finds evaluating (ExplainAnalyze query) step next written does = subst (λ (s : Step CatalogDef). Leaves s.outcome) (sym does) (leaves-analyze evaluating query) next
+  kept-step finds evaluating (Insert table rows) step next written does = subst (λ (s : Step CatalogDef). Leaves s.outcome) (sym does) (leaves-insert (Insert table rows) written) next
 
 -- the rank indexes hold the scorer's answers
 pub held-step : (answer : Answering) (catalogue : CatalogDef) (finds : Finds) (evaluating : Evaluating) (command : Command) (step : Step CatalogDef) (next : CatalogDef)
     → IndexesHold answer catalogue → IsWritten command → Does finds answer evaluating catalogue command step → step.outcome ≡ Ok next → IndexesHold answer next
 held-step answer catalogue finds evaluating command step next held =
     kept-step answer catalogue (IndexesHold answer) held (λ name table. held-with_table catalogue answer name table held) (λ predicate. held-with_predicate catalogue answer predicate held)
-    (λ def ranking fits made. held-with_index catalogue answer def ranking fits made held) finds evaluating command step next
+    (λ def ranking fits made. held-with_index catalogue answer def ranking fits made held) (λ table joining made join gives. held-grown answer catalogue table joining made join held gives)
+    finds evaluating command step next
 
 -- where cursors go on to stand for what they see, so do all that are open
 asked-larger : (answer : Answering) (small large : CatalogDef) → ((sizes : List ℕ) → HaveRows sizes small.tables → HaveRows sizes large.tables)
@@ -204,9 +226,9 @@ pub record StandOn (answer : Answering) : Type 0 where
   pub indexes : (catalogue : CatalogDef) (cursor : CursorState) (def : IndexDef) (ranking : List ScoredRow) → StandsFor catalogue answer cursor → StandsFor (with_index def ranking catalogue) answer cursor
 
 pub asked-step : (answer : Answering) (catalogue : CatalogDef) (finds : Finds) (evaluating : Evaluating) (command : Command) (step : Step CatalogDef) (next : CatalogDef)
-    (entries : List (List ℕ × CursorRows)) → StandOn answer → CanAllBeAsked answer catalogue entries → IsWritten command
+    (entries : List (List ℕ × CursorRows)) → StandOn answer → IndexesHold answer catalogue → CanAllBeAsked answer catalogue entries → IsWritten command
     → Does finds answer evaluating catalogue command step → step.outcome ≡ Ok next → CanAllBeAsked answer next entries
-asked-step answer catalogue finds evaluating command step next entries on all =
+asked-step answer catalogue finds evaluating command step next entries on held all =
     kept-step answer catalogue (λ c. CanAllBeAsked answer c entries) all
     (λ name table. asked-larger answer catalogue (with_table name table catalogue) (λ sizes have. HaveRows-push sizes catalogue.tables (record { name = name; table = table }) have)
     (λ sizes cursor have stands. subst (λ (seen : CatalogDef). StandsFor seen answer cursor) (sym (snapshot-with_table sizes catalogue name table have))
@@ -216,4 +238,6 @@ asked-step answer catalogue finds evaluating command step next entries on all =
     (λ def ranking fits made. asked-larger answer catalogue (with_index def ranking catalogue) (λ sizes have. have)
     (λ sizes cursor have stands. subst (λ (seen : CatalogDef). StandsFor seen answer cursor) (sym (snapshot-with_index sizes catalogue def ranking))
     (on.indexes (snapshot sizes catalogue) cursor def (entries_within (size_at sizes def.table) ranking) stands)) entries all)
+    (λ table joining made join gives. asked-larger answer catalogue (grown table joining made catalogue) (λ sizes have. HaveRows-with_rows sizes table joining catalogue.tables have)
+    (λ sizes cursor have stands. subst (λ (seen : CatalogDef). StandsFor seen answer cursor) (sym (snapshot-joined sizes answer catalogue table joining made have held gives)) stands) entries all)
     finds evaluating command step next
