@@ -19,6 +19,7 @@ use Rattle.rs_catalog.specs.declared.index.IndexDef.{IndexDef}
 use Rattle.rs_catalog.proofs.HeldFacts.{held-with_index, held-with_predicate, held-with_table}
 use Rattle.rs_catalog.proofs.HeldRowsFacts.{held-grown}
 use Rattle.rs_catalog.proofs.SnapshotFacts.{HaveRows-all, HaveRows-push, HaveRows-with_rows, snapshot-all, snapshot-joined, snapshot-with_index, snapshot-with_table}
+use Rattle.rs_query.specs.Views.{all_rows}
 use Rattle.rs_query.specs.declared.query.Query.{Query}
 use Rattle.rs_plain.specs.Plain.{evaluation_of}
 use Rattle.rs_plain.specs.declared.fault.PlainFault.{PlainFault}
@@ -31,8 +32,9 @@ use Rattle.rs_syntax.specs.Syntax.{Ask, Close, Command, CreatePredicate, CreateR
 use Rattle.rs_syntax.specs.Written.{AreWritten, IsWritten}
 use Rattle.rs_events.specs.Events.{Event, Finds}
 use Rattle.rs_events.specs.Sequence.{still, then_step}
-use Rattle.rs_statement.specs.Planned.{asks_from, next_asks}
-use Rattle.rs_statement.specs.Session.{ByPlan, DoesInSession, IsCursorOf, OpenCursor, Ready, Source, State, beside_cursors, close_outcome, cursor_named, declare_step, declared_query, fetch_step, fetched_cursor, fetched_from, fetched_step, opened_step, ready_outcome, with_asks, with_cursor, without_cursor}
+use Rattle.rs_statement.specs.Planned.{asks_from, next_asks, plan_for}
+use Rattle.rs_statement.specs.Sampled.{sample_step}
+use Rattle.rs_statement.specs.Session.{ByPlan, DoesInSession, IsCursorOf, OpenCursor, Ready, Source, State, beside_cursors, close_outcome, cursor_named, declare_step, declared_query, fetch_step, fetched_cursor, fetched_from, fetched_step, next_rows, opened_step, ready_outcome, with_asks, with_cursor, without_cursor}
 use Rattle.rs_statement.specs.Statements.{Does, refused_or}
 use Rattle.rs_statement.specs.Steps.{Step}
 use Rattle.rs_statement.specs.declared.evaluating.Evaluating.{Evaluating}
@@ -52,8 +54,11 @@ module _ (finds : Finds) (answer : Answering) (evaluating : Evaluating) (state :
   leaves-none : (fault : Fault) → Leaves (Err fault)
   leaves-none fault next e = absurd cc
 
+  leaves-state : (left : State) → P left.catalogue → Leaves (Ok left)
+  leaves-state left holds next e = let is : left ≡ next = cc in subst (λ (s : State). P s.catalogue) is holds
+
   leaves-same : (left : State) → left.catalogue ≡ state.catalogue → Leaves (Ok left)
-  leaves-same left same next e = let is : left ≡ next = cc in subst (λ (s : State). P s.catalogue) is (subst P (sym same) here)
+  leaves-same left same = leaves-state left (subst P (sym same) here)
 
   leaves-then : {S : Type 0} (first : Step S) (left : State) → left.catalogue ≡ state.catalogue → Leaves (then_step first (still (Ok left))).outcome
   leaves-then {S} first left same = go first.outcome where
@@ -68,12 +73,16 @@ module _ (finds : Finds) (answer : Answering) (evaluating : Evaluating) (state :
     ready (Err fault) = λ next e. absurd cc
 
     opened : (evaluating : Evaluating) → Leaves (opened_step evaluating answer name state query).outcome
-    opened Plainly = ready _
-    opened (Planned sampling) = leaves-then _ (with_cursor name _ state) refl
+    opened Plainly = ready (evaluation_of answer state.catalogue query (all_rows state.catalogue query)).outcome
+    opened (Planned sampling) =
+        leaves-then (sample_step state.catalogue sampling query)
+        (with_cursor name (ByPlan query (plan_for answer state.catalogue sampling query) (sizes_in state.catalogue)) state) refl
 
   leaves-fetched : (name : List ℕ) (asked wanted : ℕ) (source : Source) → Leaves (fetched_from answer state name asked wanted source).outcome
-  leaves-fetched name asked wanted (ByPlan query tree sizes) = leaves-then _ (with_asks name _ state) refl
-  leaves-fetched name asked wanted (Ready rows) = leaves-same (with_asks name _ state) refl
+  leaves-fetched name asked wanted (ByPlan query tree sizes) =
+      let w = world_of (snapshot sizes state.catalogue) answer query in
+      leaves-then (asks_from w tree asked (next_asks w tree asked wanted)) (with_asks name (next_asks w tree asked wanted) state) refl
+  leaves-fetched name asked wanted (Ready rows) = leaves-same (with_asks name (next_rows rows asked wanted) state) refl
 
   leaves-refused : {A : Type 0} (does : A → Step State) (bound : Result A Fault) → ((a : A) → Leaves (does a).outcome) → Leaves (refused_or does bound).outcome
   leaves-refused does (Ok a) each = each a
@@ -91,7 +100,7 @@ module _ (finds : Finds) (answer : Answering) (evaluating : Evaluating) (state :
   leaves-beside : (own : Step CatalogDef) (step : Step State) → ((next : CatalogDef) → own.outcome ≡ Ok next → P next) → step ≡ beside_cursors state.cursors own → Leaves step.outcome
   leaves-beside own step each is = leaves-step (beside_cursors state.cursors own) step is (go own.outcome each) where
     go : (outcome : Result CatalogDef Fault) → ((next : CatalogDef) → outcome ≡ Ok next → P next) → Leaves (beside_cursors state.cursors (record own { outcome = outcome })).outcome
-    go (Ok left) each next e = subst (λ (s : State). P s.catalogue) (let is : record { catalogue = left; cursors = state.cursors } ≡ next = cc in is) (each left refl)
+    go (Ok left) each = leaves-state (record { catalogue = left; cursors = state.cursors }) (each left refl)
     go (Err fault) each = leaves-none fault
 
   session-step : (command : Command) (step : Step State) → ((own : Step CatalogDef) (next : CatalogDef) → Does finds answer evaluating state.catalogue command own → own.outcome ≡ Ok next → P next)

@@ -53,7 +53,7 @@ pub fn words_have_a_run()
 
 /// A script without EXPLAIN that ends without a fault under `plain` and under `run`, whatever the seed, puts the same rows in the same
 /// order under both, over the same files and the same answers of a scorer: those of its queries, and those of its cursors, among CREATE
-/// statements and queries as they may stand. So it does where plans are chosen by guesses.
+/// statements, INSERTs and queries as they may stand. So it does where plans are chosen by guesses.
 pub fn plain_and_run_agree()
     ensures files { (there : List ℕ → Option (List ℕ)) (answer : Answering) (name : List ℕ) (sampling : Sampling) (run other : Run)
         → HasNoExplain (found_in there) name
