@@ -26,7 +26,7 @@ ghost use Rattle.rs_statement.specs.declared.sampling.Sampling.{Sampling};
 ghost use Rattle.rs_statement.specs.Planned.{asks_from, next_asks};
 ghost use Rattle.rs_statement.specs.Session.{ByPlan, IsCursorOf, OpenCursor, State, fetched_from, fetched_step};
 ghost use Rattle.rs_statement.specs.Steps.{Run};
-ghost use Rattle.rs_events.specs.Events.{Finds, finds_in, found_in, puts};
+ghost use Rattle.rs_events.specs.Events.{finds_in, found_in, puts};
 ghost use Rattle.rs_run.specs.Faults.{WordsRun};
 ghost use Rattle.rs_run.specs.Later.{LeadsTo};
 ghost use Rattle.rs_run.specs.Running.{HasNoExplain, IsRun, IsRunOf};
@@ -86,13 +86,13 @@ pub fn cursors_keep_their_rows()
         → IsCursorOf state.catalogue cursor → IndexesHold answer state.catalogue → (growing answer state.catalogue table rows).outcome ≡ Ok indexes
         → (fetched_step answer (record state { catalogue = grown table rows indexes state.catalogue }) (cursor, wanted)).events
         ≡ (fetched_step answer state (cursor, wanted)).events }
-    ensures statements { (finds : Finds) (answer : Answering) (evaluating : Evaluating) (state later : State) (commands : List Command) (cursor : OpenCursor) (wanted : ℕ)
-        → AreWritten commands → IndexesHold answer state.catalogue → IsCursorOf state.catalogue cursor → LeadsTo finds answer evaluating state commands later
+    ensures statements { (told : Option FilesTold) (answer : Answering) (evaluating : Evaluating) (state later : State) (commands : List Command) (cursor : OpenCursor) (wanted : ℕ)
+        → AreWritten commands → IndexesHold answer state.catalogue → IsCursorOf state.catalogue cursor → LeadsTo (finds_in told) answer evaluating state commands later
         → (fetched_step answer later (cursor, wanted)).events ≡ (fetched_step answer state (cursor, wanted)).events }
-    ensures declared { (finds : Finds) (answer : Answering) (evaluating : Evaluating) (state later : State) (commands : List Command) (query : syntax.Query) (bound : Query) (tree : PlanTree)
+    ensures declared { (told : Option FilesTold) (answer : Answering) (evaluating : Evaluating) (state later : State) (commands : List Command) (query : syntax.Query) (bound : Query) (tree : PlanTree)
         (name : List ℕ) (asked wanted : ℕ)
         → IsWrittenQuery query → bound_query state.catalogue query ≡ Ok bound
-        → AreWritten commands → IndexesHold answer state.catalogue → LeadsTo finds answer evaluating state commands later
+        → AreWritten commands → IndexesHold answer state.catalogue → LeadsTo (finds_in told) answer evaluating state commands later
         → (fetched_from answer later name asked wanted (ByPlan bound tree (sizes_in state.catalogue))).events
         ≡ (asks_from (world_of state.catalogue answer bound) tree asked (next_asks (world_of state.catalogue answer bound) tree asked wanted)).events }
 {

@@ -2,6 +2,7 @@ use Rattle.rs_catalog.specs.Catalog.{with_index, with_predicate, with_table}
 use Rattle.rs_catalog.specs.Growing.{grown}
 use Rattle.rs_catalog.specs.Snapshot.{sizes_in}
 use Rattle.std.proofs.Common.{◌∙◌}
+use Rattle.rs_events.specs.Events.{finds_in}
 use Rattle.rs_statement.specs.Session.{ByPlan, OpenCursor}
 use Rattle.rs_statement.proofs.SameFetches.{AskTheSame, covers-unfiltered}
 use Rattle.rs_statement.proofs.UnfilteredFacts.{unfiltered-formed}
@@ -24,12 +25,12 @@ returns c =
       rows = λ answer state cursor wanted table rows indexes is held gives.
           KeepsFetch-states same answer cursor wanted state (record state { catalogue = grown table rows indexes state.catalogue })
           (keeps-grown same answer cursor wanted state.catalogue is table rows indexes held gives);
-      statements = λ finds answer evaluating state later commands cursor wanted written held is leads.
-          KeepsFetch-states same answer cursor wanted state later (goes-on same answer cursor wanted finds evaluating commands state later written held is leads);
-      declared = λ finds answer evaluating state later commands query bound tree name asked wanted asks_written is written held leads.
+      statements = λ told answer evaluating state later commands cursor wanted written held is leads.
+          KeepsFetch-states same answer cursor wanted state later (goes-on same answer cursor wanted (finds_in told) evaluating commands state later written held is leads);
+      declared = λ told answer evaluating state later commands query bound tree name asked wanted asks_written is written held leads.
           let cursor : OpenCursor = record { name = name; source = ByPlan bound tree (sizes_in state.catalogue); asked = asked } in
           let covered = covers-unfiltered state.catalogue bound (unfiltered-formed state.catalogue query bound asks_written is) in
           KeepsFetch-states same answer cursor wanted state later
-          (goes-on same answer cursor wanted finds evaluating commands state later written held (declared-cursor answer state held bound tree name asked covered) leads)
+          (goes-on same answer cursor wanted (finds_in told) evaluating commands state later written held (declared-cursor answer state held bound tree name asked covered) leads)
           ∙ declared-events answer state held bound tree name asked wanted;
     }
