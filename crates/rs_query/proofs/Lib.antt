@@ -9,9 +9,12 @@ pub mod EquatedFacts
 pub mod ExtendFacts
 pub mod FreshFacts
 pub mod GoFacts
+pub mod GrownAnswerFacts
+pub mod GrowthFacts
 pub mod HoldFacts
 pub mod HoldNewFacts
 pub mod IndexTermFacts
+pub mod KeptCombinations
 pub mod KeyFacts
 pub mod LentFacts
 pub mod LimitFacts
@@ -31,3 +34,4 @@ pub mod WalkFacts
 pub mod WeightFacts
 pub mod WithinFacts
 pub mod WorkedCombinations
+pub mod WorkedGrowth

@@ -6,6 +6,7 @@ pub mod Combinations
 pub mod Conjuncts
 pub mod EqualRows
 pub mod Fresh
+pub mod Growth
 pub mod Lent
 pub mod Meaning
 pub mod Questions

@@ -10,6 +10,7 @@ mod calls;
 mod combinations;
 mod conjunct;
 mod equal_rows;
+mod growth_laws;
 mod inside;
 mod kept;
 mod keys;
@@ -27,6 +28,9 @@ mod weights;
 pub use ask::AskFault;
 pub use block::Block;
 pub use conjunct::Conjunct;
+pub use growth_laws::{
+    catalogues_grow, queries_keep_their_rows, queries_stay_formed, rows_keep_their_values,
+};
 pub use inside::parts_are_inside;
 pub use kept::KeptList;
 pub use laws::{

@@ -13,11 +13,12 @@ ghost use Rattle.rs_statement.specs.Parts.Steps.{Stepped};
 ghost use Rattle.rs_statement.specs.Statements.{or_bind_fault, refused_or};
 
 use crate::fault::{Fault, only_row};
+use crate::query::{bad_score, failed_call};
 use rs_bind::bind_insert;
 use rs_catalog::{Catalog, GrowFault};
-use rs_expr::Scorer;
+use rs_expr::{Predicate, Scorer};
 use rs_syntax::Statement;
-use rs_value::{List, Memory, Text, Value};
+use rs_value::{List, Value};
 use std::alloc::Global;
 
 /// The number of the table of an INSERT, and the rows that join it.
@@ -68,30 +69,16 @@ fn grow_fault(catalog: &Catalog, why: GrowFault) -> Fault
             row,
             got,
             max,
-        } => match index_predicate(catalog, index) {
-            Ok(predicate) => Fault::BadScore {
-                predicate,
-                rows: only_row(row),
-                got,
-                max,
-            },
-            Err(Memory) => Fault::Memory,
-        },
-        GrowFault::Probe { index } => match index_predicate(catalog, index) {
-            Ok(predicate) => Fault::Probe { predicate },
-            Err(Memory) => Fault::Memory,
-        },
+        } => bad_score(index_predicate(catalog, index), only_row(row), got, max),
+        GrowFault::Probe { index } => failed_call(index_predicate(catalog, index)),
         GrowFault::Memory => Fault::Memory,
     }
 }
 
-/// The name of the predicate that the index of this number is of.
-fn index_predicate(catalog: &Catalog, index: u8) -> Result<Text, Memory>
+/// The predicate that the index of this number is of.
+fn index_predicate(catalog: &Catalog, index: u8) -> &Predicate
     requires { index < length catalog.now.indexes }
-    ensures { IfOk result (λ name. name ≡ index_predicate catalog.now index) }
+    ensures { result.now.name ≡ index_predicate catalog.now index }
 {
-    catalog
-        .predicate(catalog.index(index).predicate)
-        .name()
-        .copy()
+    catalog.predicate(catalog.index(index).predicate)
 }
