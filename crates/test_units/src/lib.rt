@@ -32,10 +32,14 @@ mod rank;
 #[cfg(test)]
 mod readers;
 #[cfg(test)]
+mod refused;
+#[cfg(test)]
 mod ripple;
 #[cfg(test)]
 mod rows;
 #[cfg(test)]
 mod scorers;
+#[cfg(test)]
+mod snapshots;
 #[cfg(test)]
 mod tables;
