@@ -8,18 +8,17 @@ ghost use Rattle.rs_rank.specs.declared.scored_row.ScoredRow.{ScoredRow};
 ghost use Rattle.rs_expr.specs.Predicates.{PredicateDef};
 ghost use Rattle.rs_expr.specs.Scoring.{Answering};
 ghost use Rattle.rs_table.specs.Relation.{Relation};
-ghost use Rattle.rs_syntax.specs.Syntax as syntax;
 ghost use Rattle.rs_syntax.specs.Syntax.{Command};
-ghost use Rattle.rs_syntax.specs.Written.{AreWritten, IsWrittenQuery};
+ghost use Rattle.rs_syntax.specs.Written.{AreWritten};
 ghost use Rattle.rs_catalog.specs.Catalog.{RankIndex, with_index, with_predicate, with_table};
 ghost use Rattle.rs_catalog.specs.Growing.{grown, growing};
 ghost use Rattle.rs_catalog.specs.IndexesHold.{IndexesHold};
 ghost use Rattle.rs_catalog.specs.Snapshot.{sizes_in};
 ghost use Rattle.rs_catalog.specs.declared.index.IndexDef.{IndexDef};
-ghost use Rattle.rs_bind.specs.Queries.{bound_query};
 ghost use Rattle.rs_query.specs.declared.query.Query.{Query};
 ghost use Rattle.rs_plan.specs.Trees.{PlanTree};
 ghost use Rattle.rs_exec.specs.Asking.{world_of};
+ghost use Rattle.rs_exec.specs.Covering.{Covers};
 ghost use Rattle.rs_statement.specs.declared.evaluating.Evaluating.{Evaluating};
 ghost use Rattle.rs_statement.specs.declared.evaluating.Evaluating.TheVariants.{Plainly, Planned};
 ghost use Rattle.rs_statement.specs.declared.sampling.Sampling.{Sampling};
@@ -89,12 +88,11 @@ pub fn cursors_keep_their_rows()
     ensures statements { (told : Option FilesTold) (answer : Answering) (evaluating : Evaluating) (state later : State) (commands : List Command) (cursor : OpenCursor) (wanted : ℕ)
         → AreWritten commands → IndexesHold answer state.catalogue → IsCursorOf state.catalogue cursor → LeadsTo (finds_in told) answer evaluating state commands later
         → (fetched_step answer later (cursor, wanted)).events ≡ (fetched_step answer state (cursor, wanted)).events }
-    ensures declared { (told : Option FilesTold) (answer : Answering) (evaluating : Evaluating) (state later : State) (commands : List Command) (query : syntax.Query) (bound : Query) (tree : PlanTree)
+    ensures declared { (told : Option FilesTold) (answer : Answering) (evaluating : Evaluating) (state later : State) (commands : List Command) (query : Query) (tree : PlanTree)
         (name : List ℕ) (asked wanted : ℕ)
-        → IsWrittenQuery query → bound_query state.catalogue query ≡ Ok bound
-        → AreWritten commands → IndexesHold answer state.catalogue → LeadsTo (finds_in told) answer evaluating state commands later
-        → (fetched_from answer later name asked wanted (ByPlan bound tree (sizes_in state.catalogue))).events
-        ≡ (asks_from (world_of state.catalogue answer bound) tree asked (next_asks (world_of state.catalogue answer bound) tree asked wanted)).events }
+        → Covers state.catalogue query → AreWritten commands → IndexesHold answer state.catalogue → LeadsTo (finds_in told) answer evaluating state commands later
+        → (fetched_from answer later name asked wanted (ByPlan query tree (sizes_in state.catalogue))).events
+        ≡ (asks_from (world_of state.catalogue answer query) tree asked (next_asks (world_of state.catalogue answer query) tree asked wanted)).events }
 {
     plans_ask_the_same_in_larger_catalogues();
 }
