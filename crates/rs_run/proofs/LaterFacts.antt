@@ -41,7 +41,7 @@ use Rattle.rs_statement.specs.declared.evaluating.Evaluating.{Evaluating}
 use Rattle.rs_statement.specs.declared.evaluating.Evaluating.TheVariants.{Plainly, Planned}
 use Rattle.rs_statement.specs.declared.fault.Fault.{Fault}
 use Rattle.rs_statement.proofs.HeldSteps.{Ok-then, kept-step}
-use Rattle.rs_statement.proofs.LargerRows.{IsCursorOf-plan, alike-fetched}
+use Rattle.rs_statement.proofs.LargerRows.{IsCursorOf-plan, SameAsks-itself, alike-fetched}
 use Rattle.rs_statement.proofs.SameFetches.{AskTheSame}
 use Rattle.rs_run.specs.Later.{LeadsTo}
 
@@ -120,10 +120,6 @@ module _ (finds : Finds) (answer : Answering) (evaluating : Evaluating) (state :
   session-step (ExplainAnalyze query) step each does = leaves-beside does.0 step (λ next. each does.0 next does.1) does.2
   session-step (Insert table rows) step each does = leaves-beside does.0 step (λ next. each does.0 next does.1) does.2
 
--- the asks of a plan over one catalogue
-same-asks : (catalogue : CatalogDef) (answer : Answering) (query : Query) (tree : PlanTree) → SameAsks (world_of catalogue answer query) (world_of catalogue answer query) tree
-same-asks catalogue answer query tree = record { list = refl; rows = refl; asks = λ n. refl }
-
 module _ (asks : AskTheSame) (answer : Answering) (cursor : OpenCursor) (wanted : ℕ) where
   -- what a FETCH does over a catalogue
   abbrev over : CatalogDef → List Event
@@ -132,7 +128,7 @@ module _ (asks : AskTheSame) (answer : Answering) (cursor : OpenCursor) (wanted 
   events-over : (state : State) → (fetched_step answer state (cursor, wanted)).events ≡ over state.catalogue
   events-over state =
       alike-fetched answer (record { catalogue = state.catalogue; cursors = [] }) state cursor.name cursor.asked wanted cursor.source
-      (λ query tree sizes e. same-asks (snapshot sizes state.catalogue) answer query tree)
+      (λ query tree sizes e. SameAsks-itself (snapshot sizes state.catalogue) answer query tree)
 
   -- over the one it does what it does over the other
   pub record KeepsFetch (old new : CatalogDef) : Type 0 where
@@ -204,7 +200,7 @@ module _ (asks : AskTheSame) (answer : Answering) (cursor : OpenCursor) (wanted 
         (λ sizes query have covered. subst (λ (seen : CatalogDef). Covers seen query) (sym (stays sizes have)) covered)
         (λ sizes query tree have covered.
         subst (λ (seen : CatalogDef). SameAsks (world_of seen answer query) (world_of (snapshot sizes catalogue) answer query) tree) (sym (stays sizes have))
-        (same-asks (snapshot sizes catalogue) answer query tree))
+        (SameAsks-itself (snapshot sizes catalogue) answer query tree))
 
   -- and so it does behind statements, while the indexes go on to hold the scorer's answers
   module _ (finds : Finds) (evaluating : Evaluating) where

@@ -57,8 +57,8 @@ module _ (larger catalogue : CatalogDef) (answer : Answering) (query : Query) (t
   next-same asked wanted = λ i. min wanted (ask_count (limit_of query) (length (same.list i)) - asked)
 
 -- the asks over one catalogue
-pub same-asks : (catalogue : CatalogDef) (answer : Answering) (query : Query) (tree : PlanTree) → SameAsks (world_of catalogue answer query) (world_of catalogue answer query) tree
-same-asks catalogue answer query tree = record { list = refl; rows = refl; asks = λ n. refl }
+pub SameAsks-itself : (catalogue : CatalogDef) (answer : Answering) (query : Query) (tree : PlanTree) → SameAsks (world_of catalogue answer query) (world_of catalogue answer query) tree
+SameAsks-itself catalogue answer query tree = record { list = refl; rows = refl; asks = λ n. refl }
 
 -- the same of a FETCH of each cursor
 pub alike-fetched : (answer : Answering) (state next : State) (name : List ℕ) (asked wanted : ℕ) (source : Source)

@@ -36,7 +36,7 @@ use Rattle.rs_exec.proofs.CoversFacts.{covers, covers-larger}
 use Rattle.rs_statement.specs.Lines.{rank_lines}
 use Rattle.rs_statement.specs.Planned.{ask_count}
 use Rattle.rs_statement.specs.Session.{ByPlan, OpenCursor, Ready, asked_more, cursor_named, most_cursors, next_rows, or_session_fault, room_for_cursor}
-use Rattle.rs_statement.proofs.LargerRows.{same-asks}
+use Rattle.rs_statement.proofs.LargerRows.{SameAsks-itself}
 use Rattle.rs_statement.proofs.UnfilteredFacts.{unfiltered}
 
 -- this many of the first rows, where no more are taken than there are
@@ -404,4 +404,4 @@ module _ (answer : Answering) (catalogue : CatalogDef) where
         (λ sizes query have covered. subst (λ (seen : CatalogDef). Covers seen query) (stays sizes have) covered)
         (λ sizes query tree have covered.
         subst (λ (seen : CatalogDef). SameAsks (world_of seen answer query) (world_of (snapshot sizes catalogue) answer query) tree) (stays sizes have)
-        (same-asks (snapshot sizes catalogue) answer query tree)) ps qs all
+        (SameAsks-itself (snapshot sizes catalogue) answer query tree)) ps qs all
