@@ -104,7 +104,14 @@ fn assert_refused(
     assert_grown(rt, alloc, catalog, (1, 3), scorer, Ok(()))?;
     assert_last_calls(rt, scorer, &[1, 3, 1, 3]);
     for name in ["one", "two"] {
-        assert_entries(rt, alloc, catalog, name, 4, &[(4, 1), (3, 4), (2, 2), (1, 3)])?;
+        assert_entries(
+            rt,
+            alloc,
+            catalog,
+            name,
+            4,
+            &[(4, 1), (3, 4), (2, 2), (1, 3)],
+        )?;
     }
     Ok(())
 }

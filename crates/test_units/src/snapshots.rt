@@ -25,6 +25,7 @@ const OLD: [(u32, u32); 3] = [(8, 1), (8, 2), (5, 3)];
 
 /// Those behind one row that joined, and behind both.
 const ONE: [(u32, u32); 4] = [(10, 4), (8, 1), (8, 2), (5, 3)];
+
 const BOTH: [(u32, u32); 5] = [(10, 4), (8, 1), (8, 2), (8, 5), (5, 3)];
 
 /// Whether the numbers of rows of two tables are these.
