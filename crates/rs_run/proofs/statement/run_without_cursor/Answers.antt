@@ -50,7 +50,7 @@ returns-in-Insert g c =
     rw g.met.W.Host.after_scorer (
     Stepped-is (Does finds old.scorer.answer c.args.evaluating c.args.catalog.now (command_of c.args.statement.now)) _ c.insert_rows.new.catalog c.insert_rows.result old _
     (does-insert finds old.scorer.answer c.args.evaluating c.args.catalog.now c.args.statement.now _ _ c.in-Insert.is)
-    (rw c.scorer.ensures.value at c.insert_rows.ensures.does old))
+    (rw c.scorer-in-Insert.ensures.value at c.insert_rows.ensures.does old))
 
 pub returns-in-CreatePredicate : goal.returns-in-CreatePredicate
 returns-in-CreatePredicate g c =
