@@ -1,26 +1,22 @@
--- What is seen of the two tables at the numbers of rows that they have
-use Rattle.std.proofs.Common.{ℕ, ◌≡◌, ◌∙◌, ◌≤◌, List, [], ◌∷◌, length, map, sym, ap, subst}
+-- What is seen of two tables is two tables, and the first entry of an index is the first one behind none.
+use Rattle.std.proofs.Common.{ℕ, ◌≡◌, ◌∙◌, List, [], ◌∷◌, length, Some, sym, ap}
 use Rattle.std.proofs.lemmas.List.{length-map}
+use Rattle.std.specs.List.{filter}
+use Rattle.std.specs.Prelude.{None}
+use Rattle.rs_rank.specs.declared.scored_row.ScoredRow.{ScoredRow}
+use Rattle.rs_catalog.specs.After.{first_entry, is_behind}
 use Rattle.rs_catalog.specs.Catalog.{CatalogDef, NamedTable}
-use Rattle.rs_catalog.specs.Snapshot.{HaveRows, sizes_in, snapshot}
+use Rattle.rs_catalog.specs.Snapshot.{sizes_in, snapshot}
+use Rattle.rs_catalog.proofs.AfterFacts.{filter-none}
 use Rattle.rs_catalog.proofs.SnapshotFacts.{length-tables_at}
 
--- so many rows of the first tables, where tables have these numbers of rows
-abbrev pub AreFew : List ℕ → List ℕ → Type 0
-AreFew [] all = Unit {0}
-AreFew (count ∷ sizes) [] = ⊥
-AreFew (count ∷ sizes) (rows ∷ all) = (count ≤ rows) × AreFew sizes all
-
-have : (sizes : List ℕ) (tables : List NamedTable) → AreFew sizes (map (λ (named : NamedTable). length named.table.rows) tables) → HaveRows sizes tables
-have [] tables few = tt
-have (count ∷ sizes) [] few = few
-have (count ∷ sizes) (named ∷ tables) few = (few.0, have sizes tables few.1)
-
-pub have_rows : (sizes all : List ℕ) (catalogue : CatalogDef) → sizes_in catalogue ≡ all → AreFew sizes all → HaveRows sizes catalogue.tables
-have_rows sizes all catalogue known few = have sizes catalogue.tables (subst (AreFew sizes) (sym known) few)
-
-pub two_tables : (left right : ℕ) (catalogue : CatalogDef) → sizes_in catalogue ≡ left ∷ right ∷ [] → length catalogue.tables ≡ 2
+two_tables : (left right : ℕ) (catalogue : CatalogDef) → sizes_in catalogue ≡ left ∷ right ∷ [] → length catalogue.tables ≡ 2
 two_tables left right catalogue known = sym (length-map catalogue.tables (λ (named : NamedTable). length named.table.rows)) ∙ ap length known
 
 pub two_tables_seen : (sizes : List ℕ) (left right : ℕ) (catalogue : CatalogDef) → sizes_in catalogue ≡ left ∷ right ∷ [] → length (snapshot sizes catalogue).tables ≡ 2
 two_tables_seen sizes left right catalogue known = length-tables_at sizes catalogue.tables ∙ two_tables left right catalogue known
+
+pub first_of : (ranking : List ScoredRow) (score row : ℕ) → Some (score, row) ≡ first_entry (filter (is_behind None) ranking) → (score ≡ 8) × (row ≡ 1)
+    → first_entry ranking ≡ Some (8, 1)
+first_of ranking score row found known =
+    ap first_entry (sym (filter-none ranking)) ∙ (sym found ∙ (ap (λ (s : ℕ). Some (s, row)) known.0 ∙ ap (λ (r : ℕ). Some (8, r)) known.1))
