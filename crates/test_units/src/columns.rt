@@ -103,9 +103,9 @@ fn text_at<'a>(rows: &FirstRows<'a>, row: u32) -> Option<(&'a Text, u32)> {
 fn assert_first(rt: &impl Abort, rows: &FirstRows<'_>, want: &[(&str, u32)]) {
     assert_eq!(rt; rows.len() as usize, want.len());
     assert_eq!(rt; rows.is_empty(), want.is_empty());
-    let mut row = 0;
+    let mut row: u32 = 0;
     for (text, number) in want {
-        row += 1;
+        row = row.wrapping_add(1);
         match text_at(rows, row) {
             Some((got, at)) => assert!(rt; got.as_str() == *text && at == *number, "row {row}"),
             None => panic!(rt; "row {row} has no text"),
