@@ -1,5 +1,5 @@
 -- A join of which nothing is drawn stands, and has given no pair.
-use Rattle.std.proofs.Common.{[], sym, ap, subst}
+use Rattle.std.proofs.Common.{[], false, sym, ap, subst}
 use Rattle.rs_feed_join.specs.Joins.{IsKept}
 use Rattle.rs_feed_join.specs.Parts.{IsStanding, PartsState, join_state, new_parts}
 use Rattle.rs_feed_join.proofs.KeptFacts.{is-kept}

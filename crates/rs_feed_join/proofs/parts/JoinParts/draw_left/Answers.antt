@@ -45,51 +45,44 @@ returns-in_err-draw-clause-counts g c =
 pub left_ended-requires : goal.left_ended-requires
 left_ended-requires g c = can-end-left c.requires.standing.made (parts_of c.args.self.now) c.requires.standing.at c.requires.need
 
-pub returns-then-not-draw-clause-stands : goal.returns-then-not-draw-clause-stands
-returns-then-not-draw-clause-stands g c = λ made s.
+pub returns-then-not-branch-clause-stands : goal.returns-then-not-branch-clause-stands
+returns-then-not-branch-clause-stands g c = λ made s.
     left-over-stands made (parts_of c.args.self.now) s (g.F.Feed.state c.args.feed.now).outside.told c.requires.need c.left_ended.new.self _ _ _
-    (drew-ended 1 (g.F.Feed.state c.args.feed.now).outside.told (side_of c.args.self.now.left) (side_of c.draw.new.self) c.in_ok-draw.field-0 c.if-not-draw.true c.in_ok-draw.ensures.step)
+    (drew-ended 1 (g.F.Feed.state c.args.feed.now).outside.told (side_of c.args.self.now.left) (side_of c.draw.new.self) c.in_ok-draw.field-0 c.if-not-branch.true c.in_ok-draw.ensures.step)
     c.left_ended.ensures.ended refl refl
 
-pub returns-then-not-draw-clause-step : goal.returns-then-not-draw-clause-step
-returns-then-not-draw-clause-step g c =
-    inr (drew-ended 1 (g.F.Feed.state c.args.feed.now).outside.told (side_of c.args.self.now.left) (side_of c.draw.new.self) c.in_ok-draw.field-0 c.if-not-draw.true c.in_ok-draw.ensures.step)
+pub returns-then-not-branch-clause-step : goal.returns-then-not-branch-clause-step
+returns-then-not-branch-clause-step g c =
+    inr (drew-ended 1 (g.F.Feed.state c.args.feed.now).outside.told (side_of c.args.self.now.left) (side_of c.draw.new.self) c.in_ok-draw.field-0 c.if-not-branch.true c.in_ok-draw.ensures.step)
 
-pub returns-then-not-draw-clause-counts : goal.returns-then-not-draw-clause-counts
-returns-then-not-draw-clause-counts g c = counts-from _ _ c.draw.ensures.counts (λ e. ok_err e)
+pub returns-then-not-branch-clause-counts : goal.returns-then-not-branch-clause-counts
+returns-then-not-branch-clause-counts g c = counts-from _ _ c.draw.ensures.counts (λ e. ok_err e)
 
 -- a row came
-took : (g : _) (c : goal.Feed_left-requires g) → Took 1 (g.F.Feed.state c.args.feed.now).outside.told (side_of c.args.self.now.left) (side_of c.draw.new.self)
-took g c = drew-took 1 (g.F.Feed.state c.args.feed.now).outside.told (side_of c.args.self.now.left) (side_of c.draw.new.self) c.in_ok-draw.field-0 c.if-not-draw.false c.in_ok-draw.ensures.step
-
-pub feed_left-requires : goal.feed_left-requires
-feed_left-requires g c =
+pub feed_left-fed-requires : goal.feed_left-fed-requires
+feed_left-fed-requires g c =
     let made = c.requires.standing.made in
     let parts = parts_of c.args.self.now in
     let s = c.requires.standing.at in
     let told = (g.F.Feed.state c.args.feed.now).outside.told in
     let drawn = side_of c.draw.new.self in record {
-      last = left-fed-last made parts s told c.requires.need drawn (took g c) c.deref.result.now c.deref-2.result.now (c.deref.ensures.value) (c.deref-2.ensures.value);
-      can = left-fed-can made parts s told c.requires.need drawn (took g c) c.deref.result.now c.deref-2.result.now (c.deref.ensures.value) (c.deref-2.ensures.value);
-      fits = left-fed-fits made parts s told c.requires.need drawn (took g c) c.deref.result.now c.deref-2.result.now (c.deref.ensures.value) (c.deref-2.ensures.value);
-      values = left-fed-values made parts s told c.requires.need drawn (took g c) c.deref.result.now c.deref-2.result.now (c.deref.ensures.value) (c.deref-2.ensures.value);
-      exact = left-fed-exact made parts s told c.requires.need drawn (took g c) c.deref.result.now c.deref-2.result.now (c.deref.ensures.value) (c.deref-2.ensures.value);
-      few = left-fed-few made parts s told c.requires.need drawn (took g c) c.deref.result.now c.deref-2.result.now (c.deref.ensures.value) (c.deref-2.ensures.value);
+      last = left-fed-last made parts s told c.requires.need drawn (drew-took 1 (g.F.Feed.state c.args.feed.now).outside.told (side_of c.args.self.now.left) (side_of c.draw.new.self) c.in_ok-draw.field-0 c.if-not-branch.false c.in_ok-draw.ensures.step) c.deref.result.now c.deref-2.result.now (c.deref.ensures.value) (c.deref-2.ensures.value);
+      can = left-fed-can made parts s told c.requires.need drawn (drew-took 1 (g.F.Feed.state c.args.feed.now).outside.told (side_of c.args.self.now.left) (side_of c.draw.new.self) c.in_ok-draw.field-0 c.if-not-branch.false c.in_ok-draw.ensures.step) c.deref.result.now c.deref-2.result.now (c.deref.ensures.value) (c.deref-2.ensures.value);
+      fits = left-fed-fits made parts s told c.requires.need drawn (drew-took 1 (g.F.Feed.state c.args.feed.now).outside.told (side_of c.args.self.now.left) (side_of c.draw.new.self) c.in_ok-draw.field-0 c.if-not-branch.false c.in_ok-draw.ensures.step) c.deref.result.now c.deref-2.result.now (c.deref.ensures.value) (c.deref-2.ensures.value);
+      values = left-fed-values made parts s told c.requires.need drawn (drew-took 1 (g.F.Feed.state c.args.feed.now).outside.told (side_of c.args.self.now.left) (side_of c.draw.new.self) c.in_ok-draw.field-0 c.if-not-branch.false c.in_ok-draw.ensures.step) c.deref.result.now c.deref-2.result.now (c.deref.ensures.value) (c.deref-2.ensures.value);
+      exact = left-fed-exact made parts s told c.requires.need drawn (drew-took 1 (g.F.Feed.state c.args.feed.now).outside.told (side_of c.args.self.now.left) (side_of c.draw.new.self) c.in_ok-draw.field-0 c.if-not-branch.false c.in_ok-draw.ensures.step) c.deref.result.now c.deref-2.result.now (c.deref.ensures.value) (c.deref-2.ensures.value);
+      few = left-fed-few made parts s told c.requires.need drawn (drew-took 1 (g.F.Feed.state c.args.feed.now).outside.told (side_of c.args.self.now.left) (side_of c.draw.new.self) c.in_ok-draw.field-0 c.if-not-branch.false c.in_ok-draw.ensures.step) c.deref.result.now c.deref-2.result.now (c.deref.ensures.value) (c.deref-2.ensures.value);
     }
 
 -- there was no memory for it
-back : (g : _) (c : goal.Then-is_err g) → _
-back g c =
-    taken-back 1 (g.F.Feed.state c.args.feed.now).outside.told (side_of c.args.self.now.left) (side_of c.draw.new.self) (took g c) c.pop.new.self.items (vec_len c.draw.new.self.rows) (omega (arith, c.draw.new.self.rows.ok.0)) c.pop.ensures.rest
-
 pub returns-then-is_err-clause-step : goal.returns-then-is_err-clause-step
-returns-then-is_err-clause-step g c = (tt, back g c)
+returns-then-is_err-clause-step g c = (tt, taken-back 1 (g.F.Feed.state c.args.feed.now).outside.told (side_of c.args.self.now.left) (side_of c.draw.new.self) (drew-took 1 (g.F.Feed.state c.args.feed.now).outside.told (side_of c.args.self.now.left) (side_of c.draw.new.self) c.in_ok-draw.field-0 c.if-not-branch.false c.in_ok-draw.ensures.step) c.pop.new.self.items (vec_len c.draw.new.self.rows) (omega (arith, c.draw.new.self.rows.ok.0)) c.pop.ensures.rest)
 
 pub returns-then-is_err-clause-drawn : goal.returns-then-is_err-clause-drawn
 returns-then-is_err-clause-drawn g c =
-    subst (IsDrawnOf true (g.F.Feed.state c.draw.new.feed)) (sym (back g c))
+    subst (IsDrawnOf true (g.F.Feed.state c.draw.new.feed)) (sym (taken-back 1 (g.F.Feed.state c.args.feed.now).outside.told (side_of c.args.self.now.left) (side_of c.draw.new.self) (drew-took 1 (g.F.Feed.state c.args.feed.now).outside.told (side_of c.args.self.now.left) (side_of c.draw.new.self) c.in_ok-draw.field-0 c.if-not-branch.false c.in_ok-draw.ensures.step) c.pop.new.self.items (vec_len c.draw.new.self.rows) (omega (arith, c.draw.new.self.rows.ok.0)) c.pop.ensures.rest))
     (drawn-failed (g.F.Feed.state c.args.feed.now) (g.F.Feed.state c.draw.new.feed) (side_of c.args.self.now.left) c.requires.drawn (left-unended c.requires.standing.made (parts_of c.args.self.now) c.requires.standing.at c.requires.need) c.draw.ensures.told
-    (c.in_ok-draw.ensures.drawn.draws ∙ ap (λ (s : FeedSide). s.draws) (took g c).after ∙ ap raised (sym c.requires.drawn.draws)))
+    (c.in_ok-draw.ensures.drawn.draws ∙ ap (λ (s : FeedSide). s.draws) (drew-took 1 (g.F.Feed.state c.args.feed.now).outside.told (side_of c.args.self.now.left) (side_of c.draw.new.self) c.in_ok-draw.field-0 c.if-not-branch.false c.in_ok-draw.ensures.step).after ∙ ap raised (sym c.requires.drawn.draws)))
 
 pub returns-then-is_err-clause-counts : goal.returns-then-is_err-clause-counts
 returns-then-is_err-clause-counts g c = counts-from _ _ c.draw.ensures.counts (λ e. absurd (memory-failed e))
@@ -97,11 +90,11 @@ returns-then-is_err-clause-counts g c = counts-from _ _ c.draw.ensures.counts (�
 -- it was fed
 pub returns-clause-stands : goal.returns-clause-stands
 returns-clause-stands g c = λ made s.
-    left-fed-stands made (parts_of c.args.self.now) s (g.F.Feed.state c.args.feed.now).outside.told c.requires.need (side_of c.draw.new.self) (took g c) c.deref.result.now c.deref-2.result.now (c.deref.ensures.value) (c.deref-2.ensures.value)
+    left-fed-stands made (parts_of c.args.self.now) s (g.F.Feed.state c.args.feed.now).outside.told c.requires.need (side_of c.draw.new.self) (drew-took 1 (g.F.Feed.state c.args.feed.now).outside.told (side_of c.args.self.now.left) (side_of c.draw.new.self) c.in_ok-draw.field-0 c.if-not-branch.false c.in_ok-draw.ensures.step) c.deref.result.now c.deref-2.result.now (c.deref.ensures.value) (c.deref-2.ensures.value)
     c.feed_left-fed.new.core _ _ (on_ok c.feed_left-fed.result c.if-is_err.ensures.negation c.feed_left-fed.ensures) refl refl
 
 pub returns-clause-step : goal.returns-clause-step
-returns-clause-step g c = inl (took g c)
+returns-clause-step g c = inl (drew-took 1 (g.F.Feed.state c.args.feed.now).outside.told (side_of c.args.self.now.left) (side_of c.draw.new.self) c.in_ok-draw.field-0 c.if-not-branch.false c.in_ok-draw.ensures.step)
 
 pub returns-clause-drawn : goal.returns-clause-drawn
 returns-clause-drawn g c = c.in_ok-draw.ensures.drawn

@@ -45,51 +45,44 @@ returns-in_err-draw-clause-counts g c =
 pub right_ended-requires : goal.right_ended-requires
 right_ended-requires g c = can-end-right c.requires.standing.made (parts_of c.args.self.now) c.requires.standing.at c.requires.need
 
-pub returns-then-not-draw-clause-stands : goal.returns-then-not-draw-clause-stands
-returns-then-not-draw-clause-stands g c = λ made s.
+pub returns-then-not-branch-clause-stands : goal.returns-then-not-branch-clause-stands
+returns-then-not-branch-clause-stands g c = λ made s.
     right-over-stands made (parts_of c.args.self.now) s (g.F.Feed.state c.args.feed.now).outside.told c.requires.need c.right_ended.new.self _ _ _
-    (drew-ended 2 (g.F.Feed.state c.args.feed.now).outside.told (side_of c.args.self.now.right) (side_of c.draw.new.self) c.in_ok-draw.field-0 c.if-not-draw.true c.in_ok-draw.ensures.step)
+    (drew-ended 2 (g.F.Feed.state c.args.feed.now).outside.told (side_of c.args.self.now.right) (side_of c.draw.new.self) c.in_ok-draw.field-0 c.if-not-branch.true c.in_ok-draw.ensures.step)
     c.right_ended.ensures.ended refl refl
 
-pub returns-then-not-draw-clause-step : goal.returns-then-not-draw-clause-step
-returns-then-not-draw-clause-step g c =
-    inr (drew-ended 2 (g.F.Feed.state c.args.feed.now).outside.told (side_of c.args.self.now.right) (side_of c.draw.new.self) c.in_ok-draw.field-0 c.if-not-draw.true c.in_ok-draw.ensures.step)
+pub returns-then-not-branch-clause-step : goal.returns-then-not-branch-clause-step
+returns-then-not-branch-clause-step g c =
+    inr (drew-ended 2 (g.F.Feed.state c.args.feed.now).outside.told (side_of c.args.self.now.right) (side_of c.draw.new.self) c.in_ok-draw.field-0 c.if-not-branch.true c.in_ok-draw.ensures.step)
 
-pub returns-then-not-draw-clause-counts : goal.returns-then-not-draw-clause-counts
-returns-then-not-draw-clause-counts g c = counts-from _ _ c.draw.ensures.counts (λ e. ok_err e)
+pub returns-then-not-branch-clause-counts : goal.returns-then-not-branch-clause-counts
+returns-then-not-branch-clause-counts g c = counts-from _ _ c.draw.ensures.counts (λ e. ok_err e)
 
 -- a row came
-took : (g : _) (c : goal.Feed_right-requires g) → Took 2 (g.F.Feed.state c.args.feed.now).outside.told (side_of c.args.self.now.right) (side_of c.draw.new.self)
-took g c = drew-took 2 (g.F.Feed.state c.args.feed.now).outside.told (side_of c.args.self.now.right) (side_of c.draw.new.self) c.in_ok-draw.field-0 c.if-not-draw.false c.in_ok-draw.ensures.step
-
-pub feed_right-requires : goal.feed_right-requires
-feed_right-requires g c =
+pub feed_right-fed-requires : goal.feed_right-fed-requires
+feed_right-fed-requires g c =
     let made = c.requires.standing.made in
     let parts = parts_of c.args.self.now in
     let s = c.requires.standing.at in
     let told = (g.F.Feed.state c.args.feed.now).outside.told in
     let drawn = side_of c.draw.new.self in record {
-      last = right-fed-last made parts s told c.requires.need drawn (took g c) c.deref.result.now c.deref-2.result.now (c.deref.ensures.value) (c.deref-2.ensures.value);
-      can = right-fed-can made parts s told c.requires.need drawn (took g c) c.deref.result.now c.deref-2.result.now (c.deref.ensures.value) (c.deref-2.ensures.value);
-      fits = right-fed-fits made parts s told c.requires.need drawn (took g c) c.deref.result.now c.deref-2.result.now (c.deref.ensures.value) (c.deref-2.ensures.value);
-      values = right-fed-values made parts s told c.requires.need drawn (took g c) c.deref.result.now c.deref-2.result.now (c.deref.ensures.value) (c.deref-2.ensures.value);
-      exact = right-fed-exact made parts s told c.requires.need drawn (took g c) c.deref.result.now c.deref-2.result.now (c.deref.ensures.value) (c.deref-2.ensures.value);
-      few = right-fed-few made parts s told c.requires.need drawn (took g c) c.deref.result.now c.deref-2.result.now (c.deref.ensures.value) (c.deref-2.ensures.value);
+      last = right-fed-last made parts s told c.requires.need drawn (drew-took 2 (g.F.Feed.state c.args.feed.now).outside.told (side_of c.args.self.now.right) (side_of c.draw.new.self) c.in_ok-draw.field-0 c.if-not-branch.false c.in_ok-draw.ensures.step) c.deref.result.now c.deref-2.result.now (c.deref.ensures.value) (c.deref-2.ensures.value);
+      can = right-fed-can made parts s told c.requires.need drawn (drew-took 2 (g.F.Feed.state c.args.feed.now).outside.told (side_of c.args.self.now.right) (side_of c.draw.new.self) c.in_ok-draw.field-0 c.if-not-branch.false c.in_ok-draw.ensures.step) c.deref.result.now c.deref-2.result.now (c.deref.ensures.value) (c.deref-2.ensures.value);
+      fits = right-fed-fits made parts s told c.requires.need drawn (drew-took 2 (g.F.Feed.state c.args.feed.now).outside.told (side_of c.args.self.now.right) (side_of c.draw.new.self) c.in_ok-draw.field-0 c.if-not-branch.false c.in_ok-draw.ensures.step) c.deref.result.now c.deref-2.result.now (c.deref.ensures.value) (c.deref-2.ensures.value);
+      values = right-fed-values made parts s told c.requires.need drawn (drew-took 2 (g.F.Feed.state c.args.feed.now).outside.told (side_of c.args.self.now.right) (side_of c.draw.new.self) c.in_ok-draw.field-0 c.if-not-branch.false c.in_ok-draw.ensures.step) c.deref.result.now c.deref-2.result.now (c.deref.ensures.value) (c.deref-2.ensures.value);
+      exact = right-fed-exact made parts s told c.requires.need drawn (drew-took 2 (g.F.Feed.state c.args.feed.now).outside.told (side_of c.args.self.now.right) (side_of c.draw.new.self) c.in_ok-draw.field-0 c.if-not-branch.false c.in_ok-draw.ensures.step) c.deref.result.now c.deref-2.result.now (c.deref.ensures.value) (c.deref-2.ensures.value);
+      few = right-fed-few made parts s told c.requires.need drawn (drew-took 2 (g.F.Feed.state c.args.feed.now).outside.told (side_of c.args.self.now.right) (side_of c.draw.new.self) c.in_ok-draw.field-0 c.if-not-branch.false c.in_ok-draw.ensures.step) c.deref.result.now c.deref-2.result.now (c.deref.ensures.value) (c.deref-2.ensures.value);
     }
 
 -- there was no memory for it
-back : (g : _) (c : goal.Then-is_err g) → _
-back g c =
-    taken-back 2 (g.F.Feed.state c.args.feed.now).outside.told (side_of c.args.self.now.right) (side_of c.draw.new.self) (took g c) c.pop.new.self.items (vec_len c.draw.new.self.rows) (omega (arith, c.draw.new.self.rows.ok.0)) c.pop.ensures.rest
-
 pub returns-then-is_err-clause-step : goal.returns-then-is_err-clause-step
-returns-then-is_err-clause-step g c = (tt, back g c)
+returns-then-is_err-clause-step g c = (tt, taken-back 2 (g.F.Feed.state c.args.feed.now).outside.told (side_of c.args.self.now.right) (side_of c.draw.new.self) (drew-took 2 (g.F.Feed.state c.args.feed.now).outside.told (side_of c.args.self.now.right) (side_of c.draw.new.self) c.in_ok-draw.field-0 c.if-not-branch.false c.in_ok-draw.ensures.step) c.pop.new.self.items (vec_len c.draw.new.self.rows) (omega (arith, c.draw.new.self.rows.ok.0)) c.pop.ensures.rest)
 
 pub returns-then-is_err-clause-drawn : goal.returns-then-is_err-clause-drawn
 returns-then-is_err-clause-drawn g c =
-    subst (IsDrawnOf true (g.F.Feed.state c.draw.new.feed)) (sym (back g c))
+    subst (IsDrawnOf true (g.F.Feed.state c.draw.new.feed)) (sym (taken-back 2 (g.F.Feed.state c.args.feed.now).outside.told (side_of c.args.self.now.right) (side_of c.draw.new.self) (drew-took 2 (g.F.Feed.state c.args.feed.now).outside.told (side_of c.args.self.now.right) (side_of c.draw.new.self) c.in_ok-draw.field-0 c.if-not-branch.false c.in_ok-draw.ensures.step) c.pop.new.self.items (vec_len c.draw.new.self.rows) (omega (arith, c.draw.new.self.rows.ok.0)) c.pop.ensures.rest))
     (drawn-failed (g.F.Feed.state c.args.feed.now) (g.F.Feed.state c.draw.new.feed) (side_of c.args.self.now.right) c.requires.drawn (right-unended c.requires.standing.made (parts_of c.args.self.now) c.requires.standing.at c.requires.need) c.draw.ensures.told
-    (c.in_ok-draw.ensures.drawn.draws ∙ ap (λ (s : FeedSide). s.draws) (took g c).after ∙ ap raised (sym c.requires.drawn.draws)))
+    (c.in_ok-draw.ensures.drawn.draws ∙ ap (λ (s : FeedSide). s.draws) (drew-took 2 (g.F.Feed.state c.args.feed.now).outside.told (side_of c.args.self.now.right) (side_of c.draw.new.self) c.in_ok-draw.field-0 c.if-not-branch.false c.in_ok-draw.ensures.step).after ∙ ap raised (sym c.requires.drawn.draws)))
 
 pub returns-then-is_err-clause-counts : goal.returns-then-is_err-clause-counts
 returns-then-is_err-clause-counts g c = counts-from _ _ c.draw.ensures.counts (λ e. absurd (memory-failed e))
@@ -97,11 +90,11 @@ returns-then-is_err-clause-counts g c = counts-from _ _ c.draw.ensures.counts (�
 -- it was fed
 pub returns-clause-stands : goal.returns-clause-stands
 returns-clause-stands g c = λ made s.
-    right-fed-stands made (parts_of c.args.self.now) s (g.F.Feed.state c.args.feed.now).outside.told c.requires.need (side_of c.draw.new.self) (took g c) c.deref.result.now c.deref-2.result.now (c.deref.ensures.value) (c.deref-2.ensures.value)
+    right-fed-stands made (parts_of c.args.self.now) s (g.F.Feed.state c.args.feed.now).outside.told c.requires.need (side_of c.draw.new.self) (drew-took 2 (g.F.Feed.state c.args.feed.now).outside.told (side_of c.args.self.now.right) (side_of c.draw.new.self) c.in_ok-draw.field-0 c.if-not-branch.false c.in_ok-draw.ensures.step) c.deref.result.now c.deref-2.result.now (c.deref.ensures.value) (c.deref-2.ensures.value)
     c.feed_right-fed.new.core _ _ (on_ok c.feed_right-fed.result c.if-is_err.ensures.negation c.feed_right-fed.ensures) refl refl
 
 pub returns-clause-step : goal.returns-clause-step
-returns-clause-step g c = inl (took g c)
+returns-clause-step g c = inl (drew-took 2 (g.F.Feed.state c.args.feed.now).outside.told (side_of c.args.self.now.right) (side_of c.draw.new.self) c.in_ok-draw.field-0 c.if-not-branch.false c.in_ok-draw.ensures.step)
 
 pub returns-clause-drawn : goal.returns-clause-drawn
 returns-clause-drawn g c = c.in_ok-draw.ensures.drawn
