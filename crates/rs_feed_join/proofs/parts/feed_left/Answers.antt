@@ -25,23 +25,23 @@ last-is rows place row some at is = last-read rows place row at (some-length row
 
 pub feed_left-requires-clause-row : goal.feed_left-requires-clause-row
 feed_left-requires-clause-row c =
-    subst (λ (row : RankRow). CanFeedLeft row (joined_of c.args.core.now)) (sym (c.left_row-row.ensures c.index-lefts-lefts.result refl)) (c.requires.can c.index-lefts-lefts.result (last-is c.args.lefts.now _ c.index-lefts-lefts.result c.requires.last ? c.index-lefts-lefts.is))
+    subst (λ (row : RankRow). CanFeedLeft row (joined_of c.args.core.now)) (sym (c.left_row-row.ensures c.index-lefts-lefts.result refl)) (c.requires.can c.index-lefts-lefts.result (last-is c.args.lefts.now _ c.index-lefts-lefts.result c.requires.last refl c.index-lefts-lefts.is))
 
 pub feed_left-requires-clause-values : goal.feed_left-requires-clause-values
 feed_left-requires-clause-values c =
     subst (λ (row : RankRow). HaveTheirValues (same_texts c.args.lefts.now c.args.rights.now row) c.in_ok-values.values.items c.args.core.now.rights) (sym (c.left_row-row.ensures c.index-lefts-lefts.result refl))
-    (subst (λ (values : List Value). HaveTheirValues (same_texts c.args.lefts.now c.args.rights.now (left_row (length c.args.lefts.now) c.index-lefts-lefts.result)) values c.args.core.now.rights) (sym c.in_ok-values.ensures) (c.requires.values c.index-lefts-lefts.result (last-is c.args.lefts.now _ c.index-lefts-lefts.result c.requires.last ? c.index-lefts-lefts.is)))
+    (subst (λ (values : List Value). HaveTheirValues (same_texts c.args.lefts.now c.args.rights.now (left_row (length c.args.lefts.now) c.index-lefts-lefts.result)) values c.args.core.now.rights) (sym c.in_ok-values.ensures) (c.requires.values c.index-lefts-lefts.result (last-is c.args.lefts.now _ c.index-lefts-lefts.result c.requires.last refl c.index-lefts-lefts.is)))
 
 pub feed_left-requires-clause-exact : goal.feed_left-requires-clause-exact
 feed_left-requires-clause-exact c = λ exact.
     subst (λ (row : RankRow). MatchTheirValues (same_texts c.args.lefts.now c.args.rights.now row) c.in_ok-values.values.items c.args.core.now.rights) (sym (c.left_row-row.ensures c.index-lefts-lefts.result refl))
-    (subst (λ (values : List Value). MatchTheirValues (same_texts c.args.lefts.now c.args.rights.now (left_row (length c.args.lefts.now) c.index-lefts-lefts.result)) values c.args.core.now.rights) (sym c.in_ok-values.ensures) (c.requires.exact c.index-lefts-lefts.result (last-is c.args.lefts.now _ c.index-lefts-lefts.result c.requires.last ? c.index-lefts-lefts.is)))
+    (subst (λ (values : List Value). MatchTheirValues (same_texts c.args.lefts.now c.args.rights.now (left_row (length c.args.lefts.now) c.index-lefts-lefts.result)) values c.args.core.now.rights) (sym c.in_ok-values.ensures) (c.requires.exact c.index-lefts-lefts.result (last-is c.args.lefts.now _ c.index-lefts-lefts.result c.requires.last refl c.index-lefts-lefts.is)))
 
 pub returns : goal.returns
 returns c =
     on_ok_weaker c.feed_left.result
     (λ is row at.
-        let same = same_at (sym (last-is c.args.lefts.now _ c.index-lefts-lefts.result c.requires.last ? c.index-lefts-lefts.is) ∙ at) in
+        let same = same_at (sym (last-is c.args.lefts.now _ c.index-lefts-lefts.result c.requires.last refl c.index-lefts-lefts.is) ∙ at) in
         is ∙ ap₂ (λ (r : RankRow) (values : List Value). hash_left (same_texts c.args.lefts.now c.args.rights.now) r values c.args.core.now)
         (c.left_row-row.ensures c.index-lefts-lefts.result refl ∙ ap (left_row (length c.args.lefts.now)) same)
         (c.in_ok-values.ensures ∙ ap (λ (r : FeedRow). Text r.join ∷ []) same))

@@ -25,23 +25,23 @@ last-is rows place row some at is = last-read rows place row at (some-length row
 
 pub feed_right-requires-clause-row : goal.feed_right-requires-clause-row
 feed_right-requires-clause-row c =
-    subst (λ (row : RankRow). CanFeedRight row (joined_of c.args.core.now)) (sym (c.right_row-row.ensures c.index-rights-rights.result refl)) (c.requires.can c.index-rights-rights.result (last-is c.args.rights.now _ c.index-rights-rights.result c.requires.last ? c.index-rights-rights.is))
+    subst (λ (row : RankRow). CanFeedRight row (joined_of c.args.core.now)) (sym (c.right_row-row.ensures c.index-rights-rights.result refl)) (c.requires.can c.index-rights-rights.result (last-is c.args.rights.now _ c.index-rights-rights.result c.requires.last refl c.index-rights-rights.is))
 
 pub feed_right-requires-clause-values : goal.feed_right-requires-clause-values
 feed_right-requires-clause-values c =
     subst (λ (row : RankRow). HaveTheirValues (λ left. same_texts c.args.lefts.now c.args.rights.now left row) c.in_ok-values.values.items c.args.core.now.lefts) (sym (c.right_row-row.ensures c.index-rights-rights.result refl))
-    (subst (λ (values : List Value). HaveTheirValues (λ left. same_texts c.args.lefts.now c.args.rights.now left (right_row (length c.args.rights.now) c.index-rights-rights.result)) values c.args.core.now.lefts) (sym c.in_ok-values.ensures) (c.requires.values c.index-rights-rights.result (last-is c.args.rights.now _ c.index-rights-rights.result c.requires.last ? c.index-rights-rights.is)))
+    (subst (λ (values : List Value). HaveTheirValues (λ left. same_texts c.args.lefts.now c.args.rights.now left (right_row (length c.args.rights.now) c.index-rights-rights.result)) values c.args.core.now.lefts) (sym c.in_ok-values.ensures) (c.requires.values c.index-rights-rights.result (last-is c.args.rights.now _ c.index-rights-rights.result c.requires.last refl c.index-rights-rights.is)))
 
 pub feed_right-requires-clause-exact : goal.feed_right-requires-clause-exact
 feed_right-requires-clause-exact c = λ exact.
     subst (λ (row : RankRow). MatchTheirValues (λ left. same_texts c.args.lefts.now c.args.rights.now left row) c.in_ok-values.values.items c.args.core.now.lefts) (sym (c.right_row-row.ensures c.index-rights-rights.result refl))
-    (subst (λ (values : List Value). MatchTheirValues (λ left. same_texts c.args.lefts.now c.args.rights.now left (right_row (length c.args.rights.now) c.index-rights-rights.result)) values c.args.core.now.lefts) (sym c.in_ok-values.ensures) (c.requires.exact c.index-rights-rights.result (last-is c.args.rights.now _ c.index-rights-rights.result c.requires.last ? c.index-rights-rights.is)))
+    (subst (λ (values : List Value). MatchTheirValues (λ left. same_texts c.args.lefts.now c.args.rights.now left (right_row (length c.args.rights.now) c.index-rights-rights.result)) values c.args.core.now.lefts) (sym c.in_ok-values.ensures) (c.requires.exact c.index-rights-rights.result (last-is c.args.rights.now _ c.index-rights-rights.result c.requires.last refl c.index-rights-rights.is)))
 
 pub returns : goal.returns
 returns c =
     on_ok_weaker c.feed_right.result
     (λ is row at.
-        let same = same_at (sym (last-is c.args.rights.now _ c.index-rights-rights.result c.requires.last ? c.index-rights-rights.is) ∙ at) in
+        let same = same_at (sym (last-is c.args.rights.now _ c.index-rights-rights.result c.requires.last refl c.index-rights-rights.is) ∙ at) in
         is ∙ ap₂ (λ (r : RankRow) (values : List Value). hash_right (same_texts c.args.lefts.now c.args.rights.now) r values c.args.core.now)
         (c.right_row-row.ensures c.index-rights-rights.result refl ∙ ap (right_row (length c.args.rights.now)) same)
         (c.in_ok-values.ensures ∙ ap (λ (r : FeedRow). Text r.join ∷ []) same))

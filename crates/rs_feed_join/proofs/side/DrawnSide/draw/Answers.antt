@@ -16,7 +16,7 @@ returns-in_err-take-in-Ok-Some-clause-step g c =
     let feed = g.F.Feed.state c.args.feed.now in
     let fault = c.in_err-take-in-Ok-Some.field-0.0 in
     let gives = rw c.in-Ok-Some.field-0-is at c.in-Ok-Some.ensures.row in
-    stopped-drew c.args.side feed (g.F.Feed.state c.draw.new.feed) (side_of c.args.self.now) c.requires.drawn c.draw.ensures.told c.draw.ensures.draws (side_of c.take.new.self)
+    stopped-drew c.args.side feed (g.F.Feed.state c.draw.new.self) (side_of c.args.self.now) c.requires.drawn c.draw.ensures.told c.draw.ensures.draws (side_of c.take.new.self)
     fault c.from_residual.result (given-err c.from_residual.result fault c.from_residual.ensures)
     (cause-of c.args.side feed.outside.told (side_of c.args.self.now) c.in-Ok-Some.row fault (next-is feed (side_of c.args.self.now) (Some c.in-Ok-Some.row) c.requires.drawn gives) ? c.in_err-take-in-Ok-Some.ensures.cause)
     c.in_err-take-in-Ok-Some.ensures.err
@@ -24,7 +24,7 @@ returns-in_err-take-in-Ok-Some-clause-step g c =
 pub returns-in_err-take-in-Ok-Some-clause-drawn : goal.returns-in_err-take-in-Ok-Some-clause-drawn
 returns-in_err-take-in-Ok-Some-clause-drawn g c =
     let fault = c.in_err-take-in-Ok-Some.field-0.0 in
-    stopped-drawn c.args.side (g.F.Feed.state c.args.feed.now) (g.F.Feed.state c.draw.new.feed) (side_of c.args.self.now) c.requires.drawn c.draw.ensures.told c.draw.ensures.draws (side_of c.take.new.self)
+    stopped-drawn c.args.side (g.F.Feed.state c.args.feed.now) (g.F.Feed.state c.draw.new.self) (side_of c.args.self.now) c.requires.drawn c.draw.ensures.told c.draw.ensures.draws (side_of c.take.new.self)
     c.requires.going fault c.from_residual.result (given-err c.from_residual.result fault c.from_residual.ensures) c.in_err-take-in-Ok-Some.ensures.err
 
 pub returns-in_err-take-in-Ok-Some-clause-counts : goal.returns-in_err-take-in-Ok-Some-clause-counts
@@ -38,14 +38,14 @@ returns-in_err-take-in-Ok-Some-clause-counts g c =
 pub returns-in_ok-take-in-Ok-Some-clause-step : goal.returns-in_ok-take-in-Ok-Some-clause-step
 returns-in_ok-take-in-Ok-Some-clause-step g c =
     let gives = rw c.in-Ok-Some.field-0-is at c.in-Ok-Some.ensures.row in
-    took-drew c.args.side (g.F.Feed.state c.args.feed.now) (g.F.Feed.state c.draw.new.feed) (side_of c.args.self.now) c.requires.drawn c.draw.ensures.told c.draw.ensures.draws (side_of c.take.new.self)
+    took-drew c.args.side (g.F.Feed.state c.args.feed.now) (g.F.Feed.state c.draw.new.self) (side_of c.args.self.now) c.requires.drawn c.draw.ensures.told c.draw.ensures.draws (side_of c.take.new.self)
     c.in-Ok-Some.row gives ? c.in_ok-take-in-Ok-Some.ensures.ok c.in_ok-take-in-Ok-Some.ensures.rows
 
 pub returns-in_ok-take-in-Ok-Some-clause-drawn : goal.returns-in_ok-take-in-Ok-Some-clause-drawn
 returns-in_ok-take-in-Ok-Some-clause-drawn g c =
     let gives = rw c.in-Ok-Some.field-0-is at c.in-Ok-Some.ensures.row in
     let given = rw c.in-Ok-Some.field-0-is at c.in-Ok-Some.ensures.given in
-    took-drawn c.args.side (g.F.Feed.state c.args.feed.now) (g.F.Feed.state c.draw.new.feed) (side_of c.args.self.now) c.requires.drawn c.draw.ensures.told c.draw.ensures.draws (side_of c.take.new.self)
+    took-drawn c.args.side (g.F.Feed.state c.args.feed.now) (g.F.Feed.state c.draw.new.self) (side_of c.args.self.now) c.requires.drawn c.draw.ensures.told c.draw.ensures.draws (side_of c.take.new.self)
     c.requires.going c.requires.rows c.in-Ok-Some.row gives given c.in_ok-take-in-Ok-Some.ensures.rows
 
 pub returns-in_ok-take-in-Ok-Some-clause-counts : goal.returns-in_ok-take-in-Ok-Some-clause-counts
@@ -61,7 +61,7 @@ pub returns-in-Ok-None-clause-drawn : goal.returns-in-Ok-None-clause-drawn
 returns-in-Ok-None-clause-drawn g c =
     let gives = rw c.in-Ok-None.field-0-is at c.in-Ok-None.ensures.row in
     let given = rw c.in-Ok-None.field-0-is at c.in-Ok-None.ensures.given in
-    ended-drawn c.args.side (g.F.Feed.state c.args.feed.now) (g.F.Feed.state c.draw.new.feed) (side_of c.args.self.now) c.requires.drawn c.draw.ensures.told c.draw.ensures.draws _ gives given refl
+    ended-drawn c.args.side (g.F.Feed.state c.args.feed.now) (g.F.Feed.state c.draw.new.self) (side_of c.args.self.now) c.requires.drawn c.draw.ensures.told c.draw.ensures.draws _ gives given refl
 
 pub returns-in-Ok-None-clause-counts : goal.returns-in-Ok-None-clause-counts
 returns-in-Ok-None-clause-counts g c = counts-from _ _ c.draw.ensures.counts (λ e. ok_err e)
@@ -72,7 +72,7 @@ returns-in-Err-Failed-clause-step g c = (refl, refl)
 
 pub returns-in-Err-Failed-clause-drawn : goal.returns-in-Err-Failed-clause-drawn
 returns-in-Err-Failed-clause-drawn g c =
-    stopped-drawn c.args.side (g.F.Feed.state c.args.feed.now) (g.F.Feed.state c.draw.new.feed) (side_of c.args.self.now) c.requires.drawn c.draw.ensures.told c.draw.ensures.draws _
+    stopped-drawn c.args.side (g.F.Feed.state c.args.feed.now) (g.F.Feed.state c.draw.new.self) (side_of c.args.self.now) c.requires.drawn c.draw.ensures.told c.draw.ensures.draws _
     c.requires.going (Failed c.args.side) (Err (Failed c.args.side)) refl refl
 
 pub returns-in-Err-Failed-clause-counts : goal.returns-in-Err-Failed-clause-counts
@@ -84,7 +84,7 @@ returns-in-Err-Memory-clause-step g c = (tt, refl)
 
 pub returns-in-Err-Memory-clause-drawn : goal.returns-in-Err-Memory-clause-drawn
 returns-in-Err-Memory-clause-drawn g c =
-    stopped-drawn c.args.side (g.F.Feed.state c.args.feed.now) (g.F.Feed.state c.draw.new.feed) (side_of c.args.self.now) c.requires.drawn c.draw.ensures.told c.draw.ensures.draws _
+    stopped-drawn c.args.side (g.F.Feed.state c.args.feed.now) (g.F.Feed.state c.draw.new.self) (side_of c.args.self.now) c.requires.drawn c.draw.ensures.told c.draw.ensures.draws _
     c.requires.going Memory (Err Memory) refl refl
 
 pub returns-in-Err-Memory-clause-counts : goal.returns-in-Err-Memory-clause-counts
