@@ -167,26 +167,26 @@ counts-from old new counts to = record {
 }
 
 -- a draw of a side by what its feed did
-module _ (number : ℕ) (feed after : FeedState) (side : FeedSide) (drawn : IsDrawnOf false feed side) (told : after.outside.told ≡ feed.outside.told) (draws : after.draws ≡ raised feed.draws) (new : FeedSide) where
+module _ (number : ℕ) (feed after : FeedState) (side : FeedSide) (drawn : IsDrawnOf false feed side) (told : after.outside.told ≡ feed.outside.told) (draws : after.draws ≡ raised feed.draws) (new : FeedSide) (n : ℕ) (counted : n ≡ raised side.draws) where
   pub took-drew : (row : FeedRow) → GivesNext feed.outside.told feed.given (Ok (Some row)) → row.score < 2 ^ 32 → refusal number side.rows row.score ≡ None
-      → new ≡ record { rows = side.rows ++ row ∷ []; ended = side.ended; draws = raised side.draws } → Drew number feed.outside.told side (Ok true) new
-  took-drew row gives score free is = record { row = row; next = next-is feed side (Some row) drawn gives; score = score; free = free; after = is }
+      → new ≡ record { rows = side.rows ++ row ∷ []; ended = side.ended; draws = n } → Drew number feed.outside.told side (Ok true) new
+  took-drew row gives score free is = record { row = row; next = next-is feed side (Some row) drawn gives; score = score; free = free; after = is ∙ ap (λ m. record { rows = side.rows ++ row ∷ []; ended = side.ended; draws = m }) counted }
 
   pub took-drawn : side.ended ≡ false → AreTaken side.rows → (row : FeedRow) → GivesNext feed.outside.told feed.given (Ok (Some row)) → after.given ≡ raised feed.given
-      → new ≡ record { rows = side.rows ++ row ∷ []; ended = side.ended; draws = raised side.draws } → IsDrawnOf false after new
-  took-drawn going taken row gives given is = subst (IsDrawnOf false after) (sym is) (drawn-took feed after side row drawn going taken.few (next-is feed side (Some row) drawn gives) told draws given)
+      → new ≡ record { rows = side.rows ++ row ∷ []; ended = side.ended; draws = n } → IsDrawnOf false after new
+  took-drawn going taken row gives given is = subst (IsDrawnOf false after) (sym (is ∙ ap (λ m. record { rows = side.rows ++ row ∷ []; ended = side.ended; draws = m }) counted)) (drawn-took feed after side row drawn going taken.few (next-is feed side (Some row) drawn gives) told draws given)
 
-  pub ended-drew : GivesNext feed.outside.told feed.given (Ok None) → new ≡ record { rows = side.rows; ended = true; draws = raised side.draws } → Drew number feed.outside.told side (Ok false) new
-  ended-drew gives is = record { next = next-is feed side None drawn gives; after = is }
+  pub ended-drew : GivesNext feed.outside.told feed.given (Ok None) → new ≡ record { rows = side.rows; ended = true; draws = n } → Drew number feed.outside.told side (Ok false) new
+  ended-drew gives is = record { next = next-is feed side None drawn gives; after = is ∙ ap (λ m. record { rows = side.rows; ended = true; draws = m }) counted }
 
-  pub ended-drawn : GivesNext feed.outside.told feed.given (Ok None) → after.given ≡ feed.given → new ≡ record { rows = side.rows; ended = true; draws = raised side.draws } → IsDrawnOf false after new
-  ended-drawn gives given is = subst (IsDrawnOf false after) (sym is) (drawn-ended feed after side drawn (next-is feed side None drawn gives) told draws given)
+  pub ended-drawn : GivesNext feed.outside.told feed.given (Ok None) → after.given ≡ feed.given → new ≡ record { rows = side.rows; ended = true; draws = n } → IsDrawnOf false after new
+  ended-drawn gives given is = subst (IsDrawnOf false after) (sym (is ∙ ap (λ m. record { rows = side.rows; ended = true; draws = m }) counted)) (drawn-ended feed after side drawn (next-is feed side None drawn gives) told draws given)
 
   pub stopped-drew : (fault : JoinFault) (result : Result Bool JoinFault) → result ≡ Err fault → HasCause number feed.outside.told side fault
-      → new ≡ record { rows = side.rows; ended = side.ended; draws = raised side.draws } → Drew number feed.outside.told side result new
-  stopped-drew fault result given cause is = subst (λ (r : Result Bool JoinFault). Drew number feed.outside.told side r new) (sym given) (cause, is)
+      → new ≡ record { rows = side.rows; ended = side.ended; draws = n } → Drew number feed.outside.told side result new
+  stopped-drew fault result given cause is = subst (λ (r : Result Bool JoinFault). Drew number feed.outside.told side r new) (sym given) (cause, is ∙ ap (λ m. record { rows = side.rows; ended = side.ended; draws = m }) counted)
 
   pub stopped-drawn : side.ended ≡ false → (fault : JoinFault) (result : Result Bool JoinFault) → result ≡ Err fault
-      → new ≡ record { rows = side.rows; ended = side.ended; draws = raised side.draws } → IsDrawnOf (is_err result) after new
+      → new ≡ record { rows = side.rows; ended = side.ended; draws = n } → IsDrawnOf (is_err result) after new
   stopped-drawn going fault result given is =
-      subst (λ (r : Result Bool JoinFault). IsDrawnOf (is_err r) after new) (sym given) (subst (IsDrawnOf true after) (sym is) (drawn-failed feed after side drawn going told draws))
+      subst (λ (r : Result Bool JoinFault). IsDrawnOf (is_err r) after new) (sym given) (subst (IsDrawnOf true after) (sym (is ∙ ap (λ m. record { rows = side.rows; ended = side.ended; draws = m }) counted)) (drawn-failed feed after side drawn going told draws))

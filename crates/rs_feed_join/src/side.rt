@@ -1,4 +1,4 @@
-ghost use Rattle.std.specs.Prelude.{◌≡◌, [], ◌∷◌, ◌++◌, false, is_err, length, Err, IfErr, None, OnErr, OnOk};
+ghost use Rattle.std.specs.Prelude.{◌≡◌, ◌<◌, ◌^◌, [], ◌∷◌, ◌++◌, false, is_err, length, Err, IfErr, None, OnErr, OnOk};
 ghost use Rattle.rs_feed_join.specs.Cuts.{refusal};
 ghost use Rattle.rs_feed_join.specs.Sides.{AreTaken, Drew, IsCause, IsDrawnOf, new_side, side_of};
 ghost use Rattle.rs_value.specs.Outside.{Counts};
@@ -62,6 +62,7 @@ impl DrawnSide {
         ensures rows { OnOk result (side_of self.new ≡ record (side_of self.old) { rows = self.old.rows.items ++ row ∷ [] }) }
         ensures err { OnErr result (side_of self.new ≡ side_of self.old) }
         ensures cause { IfErr result (λ fault. IsCause side self.old.rows.items row.score fault) }
+        ensures score { row.score < 2 ^ 32 }
     {
         if let Some(fault) = self.refusal(side, row.score) {
             return Err(fault);
@@ -75,7 +76,8 @@ impl DrawnSide {
     /// Why a row with this score isn't taken next, if it isn't.
     fn refusal(&self, side: u8, score: u32) -> Option<JoinFault>
         requires { AreTaken self.now.rows.items }
-        ensures { result ≡ refusal side self.now.rows.items score }
+        ensures value { result ≡ refusal side self.now.rows.items score }
+        ensures score { score < 2 ^ 32 }
     {
         if self.rows.len() == MOST_ROWS {
             return Some(JoinFault::TooLong { side });

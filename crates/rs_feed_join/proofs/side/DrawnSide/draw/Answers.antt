@@ -16,15 +16,15 @@ returns-in_err-take-in-Ok-Some-clause-step g c =
     let feed = g.F.Feed.state c.args.feed.now in
     let fault = c.in_err-take-in-Ok-Some.field-0.0 in
     let gives = rw c.in-Ok-Some.field-0-is at c.in-Ok-Some.ensures.row in
-    stopped-drew c.args.side feed (g.F.Feed.state c.draw.new.self) (side_of c.args.self.now) c.requires.drawn c.draw.ensures.told c.draw.ensures.draws (side_of c.take.new.self)
+    stopped-drew c.args.side feed (g.F.Feed.state c.draw.new.self) (side_of c.args.self.now) c.requires.drawn c.draw.ensures.told c.draw.ensures.draws (side_of c.take.new.self) c.saturating_add-self.result c.saturating_add-self.ensures
     fault c.from_residual.result (given-err c.from_residual.result fault c.from_residual.ensures)
-    (cause-of c.args.side feed.outside.told (side_of c.args.self.now) c.in-Ok-Some.row fault (next-is feed (side_of c.args.self.now) (Some c.in-Ok-Some.row) c.requires.drawn gives) ? c.in_err-take-in-Ok-Some.ensures.cause)
+    (cause-of c.args.side feed.outside.told (side_of c.args.self.now) c.in-Ok-Some.row fault (next-is feed (side_of c.args.self.now) (Some c.in-Ok-Some.row) c.requires.drawn gives) c.take.ensures.score c.in_err-take-in-Ok-Some.ensures.cause)
     c.in_err-take-in-Ok-Some.ensures.err
 
 pub returns-in_err-take-in-Ok-Some-clause-drawn : goal.returns-in_err-take-in-Ok-Some-clause-drawn
 returns-in_err-take-in-Ok-Some-clause-drawn g c =
     let fault = c.in_err-take-in-Ok-Some.field-0.0 in
-    stopped-drawn c.args.side (g.F.Feed.state c.args.feed.now) (g.F.Feed.state c.draw.new.self) (side_of c.args.self.now) c.requires.drawn c.draw.ensures.told c.draw.ensures.draws (side_of c.take.new.self)
+    stopped-drawn c.args.side (g.F.Feed.state c.args.feed.now) (g.F.Feed.state c.draw.new.self) (side_of c.args.self.now) c.requires.drawn c.draw.ensures.told c.draw.ensures.draws (side_of c.take.new.self) c.saturating_add-self.result c.saturating_add-self.ensures
     c.requires.going fault c.from_residual.result (given-err c.from_residual.result fault c.from_residual.ensures) c.in_err-take-in-Ok-Some.ensures.err
 
 pub returns-in_err-take-in-Ok-Some-clause-counts : goal.returns-in_err-take-in-Ok-Some-clause-counts
@@ -38,14 +38,14 @@ returns-in_err-take-in-Ok-Some-clause-counts g c =
 pub returns-in_ok-take-in-Ok-Some-clause-step : goal.returns-in_ok-take-in-Ok-Some-clause-step
 returns-in_ok-take-in-Ok-Some-clause-step g c =
     let gives = rw c.in-Ok-Some.field-0-is at c.in-Ok-Some.ensures.row in
-    took-drew c.args.side (g.F.Feed.state c.args.feed.now) (g.F.Feed.state c.draw.new.self) (side_of c.args.self.now) c.requires.drawn c.draw.ensures.told c.draw.ensures.draws (side_of c.take.new.self)
-    c.in-Ok-Some.row gives ? c.in_ok-take-in-Ok-Some.ensures.ok c.in_ok-take-in-Ok-Some.ensures.rows
+    took-drew c.args.side (g.F.Feed.state c.args.feed.now) (g.F.Feed.state c.draw.new.self) (side_of c.args.self.now) c.requires.drawn c.draw.ensures.told c.draw.ensures.draws (side_of c.take.new.self) c.saturating_add-self.result c.saturating_add-self.ensures
+    c.in-Ok-Some.row gives c.take.ensures.score c.in_ok-take-in-Ok-Some.ensures.ok c.in_ok-take-in-Ok-Some.ensures.rows
 
 pub returns-in_ok-take-in-Ok-Some-clause-drawn : goal.returns-in_ok-take-in-Ok-Some-clause-drawn
 returns-in_ok-take-in-Ok-Some-clause-drawn g c =
     let gives = rw c.in-Ok-Some.field-0-is at c.in-Ok-Some.ensures.row in
     let given = rw c.in-Ok-Some.field-0-is at c.in-Ok-Some.ensures.given in
-    took-drawn c.args.side (g.F.Feed.state c.args.feed.now) (g.F.Feed.state c.draw.new.self) (side_of c.args.self.now) c.requires.drawn c.draw.ensures.told c.draw.ensures.draws (side_of c.take.new.self)
+    took-drawn c.args.side (g.F.Feed.state c.args.feed.now) (g.F.Feed.state c.draw.new.self) (side_of c.args.self.now) c.requires.drawn c.draw.ensures.told c.draw.ensures.draws (side_of c.take.new.self) c.saturating_add-self.result c.saturating_add-self.ensures
     c.requires.going c.requires.rows c.in-Ok-Some.row gives given c.in_ok-take-in-Ok-Some.ensures.rows
 
 pub returns-in_ok-take-in-Ok-Some-clause-counts : goal.returns-in_ok-take-in-Ok-Some-clause-counts
@@ -55,24 +55,24 @@ returns-in_ok-take-in-Ok-Some-clause-counts g c = counts-from _ _ c.draw.ensures
 pub returns-in-Ok-None-clause-step : goal.returns-in-Ok-None-clause-step
 returns-in-Ok-None-clause-step g c =
     let gives = rw c.in-Ok-None.field-0-is at c.in-Ok-None.ensures.row in
-    record { next = next-is (g.F.Feed.state c.args.feed.now) (side_of c.args.self.now) None c.requires.drawn gives; after = refl }
+    record { next = next-is (g.F.Feed.state c.args.feed.now) (side_of c.args.self.now) None c.requires.drawn gives; after = ap (λ n. record { rows = c.args.self.now.rows.items; ended = true; draws = n }) c.saturating_add-self.ensures }
 
 pub returns-in-Ok-None-clause-drawn : goal.returns-in-Ok-None-clause-drawn
 returns-in-Ok-None-clause-drawn g c =
     let gives = rw c.in-Ok-None.field-0-is at c.in-Ok-None.ensures.row in
     let given = rw c.in-Ok-None.field-0-is at c.in-Ok-None.ensures.given in
-    ended-drawn c.args.side (g.F.Feed.state c.args.feed.now) (g.F.Feed.state c.draw.new.self) (side_of c.args.self.now) c.requires.drawn c.draw.ensures.told c.draw.ensures.draws _ gives given refl
+    ended-drawn c.args.side (g.F.Feed.state c.args.feed.now) (g.F.Feed.state c.draw.new.self) (side_of c.args.self.now) c.requires.drawn c.draw.ensures.told c.draw.ensures.draws _ c.saturating_add-self.result c.saturating_add-self.ensures gives given refl
 
 pub returns-in-Ok-None-clause-counts : goal.returns-in-Ok-None-clause-counts
 returns-in-Ok-None-clause-counts g c = counts-from _ _ c.draw.ensures.counts (λ e. ok_err e)
 
 -- the draw failed
 pub returns-in-Err-Failed-clause-step : goal.returns-in-Err-Failed-clause-step
-returns-in-Err-Failed-clause-step g c = (refl, refl)
+returns-in-Err-Failed-clause-step g c = (refl, ap (λ n. record { rows = c.args.self.now.rows.items; ended = c.args.self.now.ended; draws = n }) c.saturating_add-self.ensures)
 
 pub returns-in-Err-Failed-clause-drawn : goal.returns-in-Err-Failed-clause-drawn
 returns-in-Err-Failed-clause-drawn g c =
-    stopped-drawn c.args.side (g.F.Feed.state c.args.feed.now) (g.F.Feed.state c.draw.new.self) (side_of c.args.self.now) c.requires.drawn c.draw.ensures.told c.draw.ensures.draws _
+    stopped-drawn c.args.side (g.F.Feed.state c.args.feed.now) (g.F.Feed.state c.draw.new.self) (side_of c.args.self.now) c.requires.drawn c.draw.ensures.told c.draw.ensures.draws _ c.saturating_add-self.result c.saturating_add-self.ensures
     c.requires.going (Failed c.args.side) (Err (Failed c.args.side)) refl refl
 
 pub returns-in-Err-Failed-clause-counts : goal.returns-in-Err-Failed-clause-counts
@@ -80,11 +80,11 @@ returns-in-Err-Failed-clause-counts g c = counts-from _ _ c.in-Err-Failed.ensure
 
 -- or there was no memory
 pub returns-in-Err-Memory-clause-step : goal.returns-in-Err-Memory-clause-step
-returns-in-Err-Memory-clause-step g c = (tt, refl)
+returns-in-Err-Memory-clause-step g c = (tt, ap (λ n. record { rows = c.args.self.now.rows.items; ended = c.args.self.now.ended; draws = n }) c.saturating_add-self.ensures)
 
 pub returns-in-Err-Memory-clause-drawn : goal.returns-in-Err-Memory-clause-drawn
 returns-in-Err-Memory-clause-drawn g c =
-    stopped-drawn c.args.side (g.F.Feed.state c.args.feed.now) (g.F.Feed.state c.draw.new.self) (side_of c.args.self.now) c.requires.drawn c.draw.ensures.told c.draw.ensures.draws _
+    stopped-drawn c.args.side (g.F.Feed.state c.args.feed.now) (g.F.Feed.state c.draw.new.self) (side_of c.args.self.now) c.requires.drawn c.draw.ensures.told c.draw.ensures.draws _ c.saturating_add-self.result c.saturating_add-self.ensures
     c.requires.going Memory (Err Memory) refl refl
 
 pub returns-in-Err-Memory-clause-counts : goal.returns-in-Err-Memory-clause-counts
