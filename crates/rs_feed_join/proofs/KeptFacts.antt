@@ -32,9 +32,9 @@ use Rattle.rs_ripple.proofs.SideFacts.{merged_key-rows}
 use Rattle.rs_feed_join.specs.declared.feed_pair.FeedPair.{FeedPair}
 use Rattle.rs_feed_join.specs.Joins.{IsAtOrBefore, IsKept, ended_empty, no_pair_can_come}
 use Rattle.rs_feed_join.specs.Pairs.{joined_pairs, pair_cmp, pair_of, sum_of}
-use Rattle.rs_feed_join.specs.Parts.{PartsState, StandsAt, answered, join_state}
+use Rattle.rs_feed_join.specs.Parts.{PartsState, StandsAt, join_state}
 use Rattle.rs_feed_join.specs.Ranked.{feed_weights, join_of_rows, left_row, left_rows, left_side, numbered, right_row, right_rows, right_side}
-use Rattle.rs_feed_join.specs.Sides.{FeedSide}
+use Rattle.rs_feed_join.specs.Sides.{FeedSide, answered}
 use Rattle.rs_feed_join.proofs.AnswerFacts.{all-given, given-certain, pairs-length}
 use Rattle.rs_feed_join.proofs.HashFacts.{rows-left, rows-right}
 use Rattle.rs_feed_join.proofs.PairFacts.{answers-are, merged-is, rank_of}

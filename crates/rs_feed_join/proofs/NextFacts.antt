@@ -51,7 +51,7 @@ module _ (old new : PartsState) (finished : Bool) (l0 l1 r0 r1 : FeedState) (res
       (may-tell 2 (is_err result) r1 new.right result rights (a.right_told ∙ telling) scoring a.right_drawn (a.right_refused rights telling))
 
   pub next-after : IsAfter (join_state old finished false) (join_state new (finished_after result finished) (is_err result)) result
-  next-after = record { given = a.given; finished = refl; broken = refl; left_grows = a.left_grows; right_grows = a.right_grows }
+  next-after = record { given = a.given; finished = refl; broken = refl; left_grows = a.left_grows; right_grows = a.right_grows; left_over = a.left_over; right_over = a.right_over }
 
   pub next-broken : (result ≡ Err Broken) ↔ (false ≡ true)
   next-broken = (λ e. absurd (a.unbroken e), λ e. absurd (true≢false (sym e)))

@@ -24,9 +24,9 @@ use Rattle.rs_value.specs.declared.value.Value.TheVariants.{Text}
 use Rattle.rs_feed_join.specs.declared.fault.JoinFault.{JoinFault}
 use Rattle.rs_feed_join.specs.Cuts.{Falls, HaveScores, last_score, most_rows, order_refusal, refusal, rises}
 use Rattle.rs_feed_join.specs.Joins.{Continues}
-use Rattle.rs_feed_join.specs.Parts.{IsAnswered, IsAnsweredBy, PartsState, StandsAt, answered, asked_once_more, new_parts}
+use Rattle.rs_feed_join.specs.Parts.{IsAnswered, IsAnsweredBy, PartsState, StandsAt, asked_once_more, new_parts}
 use Rattle.rs_feed_join.specs.Ranked.{hashed_left, hashed_right, join_of_rows, left_row, left_rows, numbered, right_row, right_rows, same_texts}
-use Rattle.rs_feed_join.specs.Sides.{AreTaken, FeedSide}
+use Rattle.rs_feed_join.specs.Sides.{AreTaken, FeedSide, answered}
 use Rattle.rs_feed_join.proofs.HashFacts.{left-fed, right-fed}
 use Rattle.rs_feed_join.proofs.RankedFacts.{can-join, get-numbered, length-numbered, numbered-push, sides-are}
 use Rattle.rs_ripple.proofs.LawFacts.{new-stands}

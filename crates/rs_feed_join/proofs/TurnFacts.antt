@@ -1,6 +1,7 @@
 -- From one ask to the next, and where a join of two feeds stops.
-use Rattle.std.proofs.Common.{◌≡◌, ℕ, zero, suc, ◌+◌, ◌-◌, ◌<◌, ◌≤◌, ◌==◌, Bool, true, false, cond, List, [], ◌∷◌, ◌++◌, length, option_map, take, unwrap_or, Option, Some, None, Result, Ok, Err, is_err, slice_get, refl, sym, ◌∙◌, ap, ap₂, subst, ◌⊎◌, inl, inr, arith}
+use Rattle.std.proofs.Common.{◌≡◌, ℕ, zero, suc, ◌+◌, ◌-◌, ◌<◌, ◌≤◌, ◌==◌, Bool, true, false, cond, nat_lt, List, [], ◌∷◌, ◌++◌, length, option_map, take, unwrap_or, Option, Some, None, Result, Ok, Err, is_err, slice_get, refl, sym, ◌∙◌, ap, ap₂, subst, ◌⊎◌, inl, inr, arith}
 use Rattle.std.proofs.lemmas.Bool.{true≢false}
+use Rattle.std.proofs.lemmas.Bool.Decides.{nat_tests}
 use Rattle.std.specs.Option.{IfSome}
 use Rattle.std.specs.Prelude.{IfOk, OnErr, OnOk}
 use Rattle.rs_feed.specs.declared.feed_row.FeedRow.{FeedRow}
@@ -20,7 +21,7 @@ use Rattle.rs_feed_join.specs.declared.fault.JoinFault.TheVariants.{OutOfOrder, 
 use Rattle.rs_feed_join.specs.declared.feed_pair.FeedPair.{FeedPair}
 use Rattle.rs_feed_join.specs.Answers.{Answers, BreaksOff, Fails, HasRefused, IsNext, MayBe, draws_for, fault_behind, lies_past, number_of}
 use Rattle.rs_feed_join.specs.Cuts.{last_score, most_rows, order_refusal, refusal, rises}
-use Rattle.rs_feed_join.specs.Joins.{FeedJoinState, IsKept, given_after, pairs_drawn}
+use Rattle.rs_feed_join.specs.Joins.{FeedJoinState, IsKept, IsRefusal, IsRise, IsSide, given_after, pairs_drawn, side_in}
 use Rattle.rs_feed_join.specs.Parts.{Advanced, HasToldRefused, IsStanding, PartsState, SideDrew, StandsAt, Turn, asked_once_more, draws_left, join_state}
 use Rattle.rs_feed_join.specs.Sides.{AreTaken, Ended, FeedSide, HasCause, HasNext, IsDrawnOf, Refused, Took}
 use Rattle.rs_feed_join.proofs.AnswerFacts.{end-answers, get-length, left-breaks, left-refused, length-refused, next-there, order-refused, ready-answers, ready-breaks, right-breaks, right-refused}
@@ -94,6 +95,35 @@ told-refused number told side (TooLong s) cause after same = λ rows e own.
 told-refused number told side (Failed s) cause after same = λ rows e. tt
 told-refused number told side Memory cause after same = λ rows e. tt
 told-refused number told side Broken cause after same = absurd cause
+
+-- what a fault says of a row that was refused
+score-rises : (before : Option ℕ) (score : ℕ) → rises before score ≡ true → (before ≡ Some (unwrap_or before 0)) × (unwrap_or before 0 < score)
+score-rises None score e = cc
+score-rises (Some b) score e = (refl, more b score e) where
+  more : (m n : ℕ) → nat_lt m n ≡ true → m < n
+  more m n f = grind (arith, nat_tests)
+
+fewer : (n : ℕ) → n ≤ 131072 → (n == 131072) ≡ false → n < 131072
+fewer n h e = grind (arith, nat_tests)
+
+as-many : (n : ℕ) → (n == 131072) ≡ true → n ≡ 131072
+as-many n e = grind (arith, nat_tests)
+
+cause-refusal : (number : ℕ) (told : Option (List FeedRow)) (side : FeedSide) (fault : JoinFault) → HasCause number told side fault → AreTaken side.rows → (state : FeedJoinState) → IsSide number → (side_in number state).rows ≡ side.rows → (side_in number state).ended ≡ false
+    → IsRefusal state (Err fault)
+cause-refusal number told side (OutOfOrder s row before got) cause taken state is rows going =
+    let facts = refused-order number side.rows cause.row.score s row before got cause.refused in
+    let rise = score-rises (last_score side.rows) cause.row.score facts.1 in
+    subst (λ fault. IsRefusal state (Err fault)) (sym facts.2)
+    (is, going, subst (λ (xs : List FeedRow). IsRise xs (suc (length side.rows)) (unwrap_or (last_score side.rows) 0) cause.row.score) (sym rows)
+    (record { few = fewer (length side.rows) taken.few facts.0; row = refl; before = rise.0; more = rise.1 }))
+cause-refusal number told side (TooLong s) cause taken state is rows going =
+    let facts = refused-length number side.rows cause.row.score s cause.refused in
+    subst (λ fault. IsRefusal state (Err fault)) (sym facts.1)
+    (is, going, ap (λ (xs : List FeedRow). length xs) rows ∙ as-many (length side.rows) facts.0)
+cause-refusal number told side (Failed s) cause taken state is rows going = tt
+cause-refusal number told side Memory cause taken state is rows going = tt
+cause-refusal number told side Broken cause taken state is rows going = tt
 
 -- the other feed refused none
 other-refused : (number other : ℕ) → (number ≡ other → ⊥) → (told from : Option (List FeedRow)) (side after : FeedSide) (fault : JoinFault) → HasCause number from side fault → HasToldRefused other told after (Err fault)
@@ -250,7 +280,7 @@ pub turn-begins : (parts : PartsState) (left right : FeedState) → IsStanding p
 turn-begins parts left right standing drawn other = record {
   standing = standing;
   given = refl;
-  still = λ e. refl;
+  still = λ e. (refl, refl, refl);
   left_drawn = drawn;
   right_drawn = other;
   left_told = refl;
@@ -259,17 +289,26 @@ turn-begins parts left right standing drawn other = record {
   right_counts = counts-none right.outside;
   left_grows = BeginsWith-itself parts.left.rows;
   right_grows = BeginsWith-itself parts.right.rows;
+  left_over = λ e. refl;
+  right_over = λ e. refl;
 }
 
 module _ (old mid : PartsState) (l0 l1 r0 r1 : FeedState) (t : Turn old mid l0 l1 r0 r1) where
   not-end-left : ask_of mid.core.ripple ≡ NeedLeft → ask_of old.core.ripple ≡ End → ⊥
-  not-end-left need end = need-end (ask_of mid.core.ripple) need (ap (λ (p : PartsState). ask_of p.core.ripple) (t.still end) ∙ end)
+  not-end-left need end = need-end (ask_of mid.core.ripple) need (ap (λ (p : PartsState). ask_of p.core.ripple) (t.still end).0 ∙ end)
 
   not-end-right : ask_of mid.core.ripple ≡ NeedRight → ask_of old.core.ripple ≡ End → ⊥
-  not-end-right need end = need-end-right (ask_of mid.core.ripple) need (ap (λ (p : PartsState). ask_of p.core.ripple) (t.still end) ∙ end)
+  not-end-right need end = need-end-right (ask_of mid.core.ripple) need (ap (λ (p : PartsState). ask_of p.core.ripple) (t.still end).0 ∙ end)
 
   not-end-ready : ask_of mid.core.ripple ≡ Ready → ask_of old.core.ripple ≡ End → ⊥
-  not-end-ready need end = ready-end (ask_of mid.core.ripple) need (ap (λ (p : PartsState). ask_of p.core.ripple) (t.still end) ∙ end)
+  not-end-ready need end = ready-end (ask_of mid.core.ripple) need (ap (λ (p : PartsState). ask_of p.core.ripple) (t.still end).0 ∙ end)
+
+  -- a side that is drawn hadn't ended
+  going-left : ask_of mid.core.ripple ≡ NeedLeft → old.left.ended ≡ true → ⊥
+  going-left need e = true≢false (sym (ap (λ (side : FeedSide). side.ended) (t.left_over e) ∙ e) ∙ left-unended t.standing.made mid t.standing.at need)
+
+  going-right : ask_of mid.core.ripple ≡ NeedRight → old.right.ended ≡ true → ⊥
+  going-right need e = true≢false (sym (ap (λ (side : FeedSide). side.ended) (t.right_over e) ∙ e) ∙ right-unended t.standing.made mid t.standing.at need)
 
   -- a draw that went well
   pub turn-left : {F : Type 0} (new : PartsState) (l2 : FeedState) → ask_of mid.core.ripple ≡ NeedLeft → ((made : List SideAsk) → StandsAt made mid → StandsAt (asked_once_more Left made) new)
@@ -287,6 +326,8 @@ module _ (old mid : PartsState) (l0 l1 r0 r1 : FeedState) (t : Turn old mid l0 l
     right_counts = t.right_counts;
     left_grows = grows-step 1 l1.outside.told old.left mid.left new.left t.left_grows step;
     right_grows = subst (λ (side : FeedSide). BeginsWith side.rows old.right.rows) (sym other) t.right_grows;
+    left_over = λ e. absurd (going-left need e);
+    right_over = λ e. other ∙ t.right_over e;
   }
 
   pub turn-right : {F : Type 0} (new : PartsState) (r2 : FeedState) → ask_of mid.core.ripple ≡ NeedRight → ((made : List SideAsk) → StandsAt made mid → StandsAt (asked_once_more Right made) new)
@@ -304,6 +345,8 @@ module _ (old mid : PartsState) (l0 l1 r0 r1 : FeedState) (t : Turn old mid l0 l
     right_counts = counts-then r0.outside r1.outside r2.outside t.right_counts counts (λ g. absurd g);
     left_grows = subst (λ (side : FeedSide). BeginsWith side.rows old.left.rows) (sym other) t.left_grows;
     right_grows = grows-step 2 r1.outside.told old.right mid.right new.right t.right_grows step;
+    left_over = λ e. other ∙ t.left_over e;
+    right_over = λ e. absurd (going-right need e);
   }
 
   -- a draw that took no row
@@ -336,6 +379,9 @@ module _ (old mid : PartsState) (l0 l1 r0 r1 : FeedState) (t : Turn old mid l0 l
     right_counts = counts-weaker r0.outside r1.outside (λ e. one-two (sym (failed-side 1 l1.outside.told mid.left fault 2 cause (err-same fault (Failed 2) e)))) t.right_counts;
     left_grows = subst (λ (side : FeedSide). BeginsWith side.rows old.left.rows) (sym left) t.left_grows;
     right_grows = subst (λ (side : FeedSide). BeginsWith side.rows old.right.rows) (sym right) t.right_grows;
+    left_over = λ e. absurd (going-left need e);
+    right_over = λ e. right ∙ t.right_over e;
+    refused = cause-refusal 1 l1.outside.told mid.left fault cause t.standing.at.left_taken (join_state new false false) (inl refl) (ap (λ (side : FeedSide). side.rows) left) (ap (λ (side : FeedSide). side.ended) left ∙ left-unended t.standing.made mid t.standing.at need);
   }
 
   pub stopped-right : (fault : JoinFault) (new : PartsState) (r2 : FeedState) → ask_of mid.core.ripple ≡ NeedRight
@@ -367,6 +413,9 @@ module _ (old mid : PartsState) (l0 l1 r0 r1 : FeedState) (t : Turn old mid l0 l
     right_counts = counts-then r0.outside r1.outside r2.outside t.right_counts counts (λ e. ap (failed_with Unit) (err-same fault (Failed 2) e));
     left_grows = subst (λ (side : FeedSide). BeginsWith side.rows old.left.rows) (sym left) t.left_grows;
     right_grows = subst (λ (side : FeedSide). BeginsWith side.rows old.right.rows) (sym right) t.right_grows;
+    left_over = λ e. left ∙ t.left_over e;
+    right_over = λ e. absurd (going-right need e);
+    refused = cause-refusal 2 r1.outside.told mid.right fault cause t.standing.at.right_taken (join_state new false false) (inr refl) (ap (λ (side : FeedSide). side.rows) right) (ap (λ (side : FeedSide). side.ended) right ∙ right-unended t.standing.made mid t.standing.at need);
   }
 
   -- a pair was given
@@ -396,6 +445,9 @@ module _ (old mid : PartsState) (l0 l1 r0 r1 : FeedState) (t : Turn old mid l0 l
     right_counts = counts-weaker r0.outside r1.outside (λ e. ok_err e) t.right_counts;
     left_grows = subst (λ (side : FeedSide). BeginsWith side.rows old.left.rows) (sym left) t.left_grows;
     right_grows = subst (λ (side : FeedSide). BeginsWith side.rows old.right.rows) (sym right) t.right_grows;
+    left_over = λ e. left ∙ t.left_over e;
+    right_over = λ e. right ∙ t.right_over e;
+    refused = tt;
   } where
     ok-same : (p : Option FeedPair) → done_with p ≡ done_with None → p ≡ None
     ok-same p e = cc
@@ -429,6 +481,9 @@ module _ (old mid : PartsState) (l0 l1 r0 r1 : FeedState) (t : Turn old mid l0 l
     right_counts = counts-weaker r0.outside r1.outside (λ e. memory-failed (err-same Memory (Failed 2) e)) t.right_counts;
     left_grows = subst (λ (side : FeedSide). BeginsWith side.rows old.left.rows) (sym left) t.left_grows;
     right_grows = subst (λ (side : FeedSide). BeginsWith side.rows old.right.rows) (sym right) t.right_grows;
+    left_over = λ e. left ∙ t.left_over e;
+    right_over = λ e. right ∙ t.right_over e;
+    refused = tt;
   } where
     memory-broken : Memory ≡ Broken → ⊥
     memory-broken e = cc
@@ -455,7 +510,7 @@ module _ (old mid : PartsState) (l0 l1 r0 r1 : FeedState) (t : Turn old mid l0 l
     standing = λ e. t.standing;
     kept = is-kept t.standing.made mid t.standing.at;
     end = λ e. (end, is-whole t.standing.made mid t.standing.at end);
-    still = λ e. (refl, t.still e);
+    still = λ e. (refl, (t.still e).0, (t.still e).1, (t.still e).2);
     unbroken = λ e. ok_err e;
     left_drawn = t.left_drawn;
     right_drawn = t.right_drawn;
@@ -465,4 +520,7 @@ module _ (old mid : PartsState) (l0 l1 r0 r1 : FeedState) (t : Turn old mid l0 l
     right_counts = counts-weaker r0.outside r1.outside (λ e. ok_err e) t.right_counts;
     left_grows = t.left_grows;
     right_grows = t.right_grows;
+    left_over = t.left_over;
+    right_over = t.right_over;
+    refused = tt;
   }

@@ -1,12 +1,13 @@
 -- What a join of two feeds keeps, and what holds of it whatever its feeds have behind the rows that were drawn.
-use Rattle.std.specs.Prelude.{ℕ, suc, ◌≡◌, ◌≤◌, ◌==◌, ◌&&◌, ◌||◌, Bool, true, false, List, [], length, take, slice_get, Option, Some, None, IfSome, Result, Ok, Err, is_err, if◌then◌else◌}
+use Rattle.std.specs.Prelude.{ℕ, suc, ◌≡◌, ◌≤◌, ◌<◌, ◌⊎◌, ◌==◌, ◌&&◌, ◌||◌, Bool, true, false, List, [], length, take, slice_get, Option, Some, None, IfSome, Result, Ok, Err, is_err, if◌then◌else◌}
 use Rattle.rs_feed.specs.declared.feed_row.FeedRow.{FeedRow}
 use Rattle.rs_feed_join.specs.declared.fault.JoinFault.{JoinFault}
+use Rattle.rs_feed_join.specs.declared.fault.JoinFault.TheVariants.{OutOfOrder, TooLong, Failed, Memory, Broken}
 use Rattle.rs_feed_join.specs.declared.feed_pair.FeedPair.{FeedPair}
 use Rattle.rs_order.specs.Climbing.{IsNoLater}
 use Rattle.rs_order.specs.Last.{last_of}
 use Rattle.rs_ripple.specs.Stands.{BeginsWith}
-use Rattle.rs_feed_join.specs.Cuts.{Falls, HaveScores}
+use Rattle.rs_feed_join.specs.Cuts.{Falls, HaveScores, last_score, most_rows}
 use Rattle.rs_feed_join.specs.Pairs.{joined_pairs, pair_cmp, pair_of}
 use Rattle.rs_feed_join.specs.Sides.{AreTaken, FeedSide, new_side}
 
@@ -68,7 +69,26 @@ pub record IsKept (state : FeedJoinState) : Type 0 where
   pub all : state.finished ≡ true → length (pairs_drawn state.left state.right) ≡ state.given
   pub over : state.finished ≡ true → no_pair_can_come state.left state.right ≡ true
 
--- what a call leaves, beside the sides
+-- the rows of a side end in front of one whose score, this one, is greater than the score of the last of them
+pub record IsRise (rows : List FeedRow) (row before got : ℕ) : Type 0 where
+  pub few : length rows < most_rows
+  pub row : row ≡ suc (length rows)
+  pub before : last_score rows ≡ Some before
+  pub more : before < got
+
+-- a fault tells a row that was refused, whatever its feed tells of its rows: its side hadn't ended, and the row rose, or was one too many
+abbrev pub IsSide : ℕ → Type 0
+IsSide side = (side ≡ 1) ⊎ (side ≡ 2)
+
+abbrev pub IsRefusal : FeedJoinState → Result (Option FeedPair) JoinFault → Type 0
+IsRefusal state (Ok pair) = Unit {0}
+IsRefusal state (Err (OutOfOrder side row before got)) = IsSide side × ((side_in side state).ended ≡ false) × IsRise (side_in side state).rows row before got
+IsRefusal state (Err (TooLong side)) = IsSide side × ((side_in side state).ended ≡ false) × (length (side_in side state).rows ≡ most_rows)
+IsRefusal state (Err (Failed side)) = Unit {0}
+IsRefusal state (Err Memory) = Unit {0}
+IsRefusal state (Err Broken) = Unit {0}
+
+-- what a call leaves of a join; a side that ended is drawn no more
 abbrev pub given_after : Result (Option FeedPair) JoinFault → ℕ → ℕ
 given_after (Ok (Some pair)) given = suc given
 given_after (Ok None) given = given
@@ -85,3 +105,5 @@ pub record IsAfter (old new : FeedJoinState) (result : Result (Option FeedPair) 
   pub broken : new.broken ≡ is_err result
   pub left_grows : BeginsWith new.left.rows old.left.rows
   pub right_grows : BeginsWith new.right.rows old.right.rows
+  pub left_over : old.left.ended ≡ true → new.left ≡ old.left
+  pub right_over : old.right.ended ≡ true → new.right ≡ old.right

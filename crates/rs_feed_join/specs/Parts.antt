@@ -15,9 +15,9 @@ use Rattle.rs_ripple.specs.Ripple.{ask_of}
 use Rattle.rs_ripple.specs.Stands.{BeginsWith}
 use Rattle.rs_value.specs.Outside.{Counts}
 use Rattle.rs_feed_join.specs.Answers.{HasRefused, IsNext, MayBe}
-use Rattle.rs_feed_join.specs.Joins.{Continues, FeedJoinState, IsKept, given_after}
+use Rattle.rs_feed_join.specs.Joins.{Continues, FeedJoinState, IsKept, IsRefusal, given_after}
 use Rattle.rs_feed_join.specs.Ranked.{feed_weights, hashed_left, hashed_right, join_of_rows, left_rows, left_side, numbered, right_rows, right_side}
-use Rattle.rs_feed_join.specs.Sides.{AreTaken, Ended, FeedSide, HasCause, IsDrawnOf, Took, new_side, side_of}
+use Rattle.rs_feed_join.specs.Sides.{AreTaken, Ended, FeedSide, HasCause, IsDrawnOf, Took, answered, new_side, side_of}
 use Rattle.rs_value.specs.Faults.{raised}
 
 -- the core, both sides, and how many pairs were given
@@ -45,10 +45,6 @@ IsAnsweredBy side number = (number ≤ length side.rows) ⊎ (side.ended ≡ tru
 
 abbrev pub IsAnswered : FeedSide → FeedSide → SideAsk → Type 0
 IsAnswered left right ask = elim ask.side as (λ _. Type 0) [ Left ↦ IsAnsweredBy left ask.number | Right ↦ IsAnsweredBy right ask.number ]
-
--- the asks that a side answered: one for each row, and one for its end
-abbrev pub answered : FeedSide → ℕ
-answered side = length side.rows + (if side.ended then 1 else 0)
 
 -- whatever the feeds have behind the rows that were drawn, the core stands at these asks and the pairs given
 pub record StandsAt (made : List SideAsk) (parts : PartsState) : Type 0 where
@@ -92,7 +88,8 @@ pub record Advanced (old new : PartsState) (left_old left_new right_old right_ne
   pub standing : is_err result ≡ false → IsStanding new
   pub kept : IsKept (join_state new false false)
   pub end : result ≡ Ok None → (ask_of new.core.ripple ≡ End) × IsKept (join_state new true false)
-  pub still : ask_of old.core.ripple ≡ End → (result ≡ Ok None) × (new ≡ old)
+  pub still : ask_of old.core.ripple ≡ End → (result ≡ Ok None) × (new ≡ old) × (left_new ≡ left_old) × (right_new ≡ right_old)
+  pub refused : IsRefusal (join_state new false false) result
   pub unbroken : result ≡ Err Broken → ⊥
   pub left_drawn : IsDrawnOf (is_err result) left_new new.left
   pub right_drawn : IsDrawnOf (is_err result) right_new new.right
@@ -102,12 +99,14 @@ pub record Advanced (old new : PartsState) (left_old left_new right_old right_ne
   pub right_counts : Counts (result ≡ Err (Failed 2)) right_old.outside right_new.outside
   pub left_grows : BeginsWith new.left.rows old.left.rows
   pub right_grows : BeginsWith new.right.rows old.right.rows
+  pub left_over : old.left.ended ≡ true → new.left ≡ old.left
+  pub right_over : old.right.ended ≡ true → new.right ≡ old.right
 
 -- between two asks
 pub record Turn (old new : PartsState) (left_old left_new right_old right_new : FeedState) : Type 0 where
   pub standing : IsStanding new
   pub given : new.given ≡ old.given
-  pub still : ask_of old.core.ripple ≡ End → new ≡ old
+  pub still : ask_of old.core.ripple ≡ End → (new ≡ old) × (left_new ≡ left_old) × (right_new ≡ right_old)
   pub left_drawn : IsDrawnOf false left_new new.left
   pub right_drawn : IsDrawnOf false right_new new.right
   pub left_told : left_new.outside.told ≡ left_old.outside.told
@@ -116,6 +115,8 @@ pub record Turn (old new : PartsState) (left_old left_new right_old right_new : 
   pub right_counts : Counts ⊥ right_old.outside right_new.outside
   pub left_grows : BeginsWith new.left.rows old.left.rows
   pub right_grows : BeginsWith new.right.rows old.right.rows
+  pub left_over : old.left.ended ≡ true → new.left ≡ old.left
+  pub right_over : old.right.ended ≡ true → new.right ≡ old.right
 
 -- the most draws of a side that are left
 abbrev pub draws_left : FeedSide → ℕ

@@ -1,5 +1,5 @@
 -- What a join keeps of a side, and what a draw of the side's feed does to it.
-use Rattle.std.specs.Prelude.{ℕ, suc, ◌≡◌, ◌≤◌, ◌<◌, ◌^◌, ◌⊎◌, Bool, true, false, List, [], ◌∷◌, ◌++◌, length, Option, Some, None, IfSome, slice_get, Result, Ok, Err}
+use Rattle.std.specs.Prelude.{ℕ, suc, ◌+◌, ◌≡◌, ◌≤◌, ◌<◌, ◌^◌, ◌⊎◌, Bool, true, false, List, [], ◌∷◌, ◌++◌, length, Option, Some, None, IfSome, slice_get, Result, Ok, Err, if◌then◌else◌}
 use Rattle.rs_feed.specs.declared.feed_row.FeedRow.{FeedRow}
 use Rattle.rs_feed.specs.Feeds.{FeedState}
 use Rattle.rs_feed_join.specs.declared.fault.JoinFault.{JoinFault}
@@ -21,6 +21,14 @@ new_side = record { rows = []; ended = false; draws = 0 }
 
 abbrev pub side_of : DrawnSide → FeedSide
 side_of side = record { rows = side.rows.items; ended = side.ended; draws = side.draws }
+
+-- the draws that a side answered: one for each row that was taken, and one that said that there are no more
+abbrev pub answered : FeedSide → ℕ
+answered side = length side.rows + (if side.ended then 1 else 0)
+
+-- these are all of its draws
+abbrev pub IsCounted : FeedSide → Type 0
+IsCounted side = side.draws ≡ answered side
 
 -- a side was drawn of a feed: the join made all its draws. Where the rows are told, the side's are the first of them, and all where it
 -- ended; and as long as no draw failed, each row that was given was taken
