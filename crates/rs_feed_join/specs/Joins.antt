@@ -72,8 +72,8 @@ pub record IsKept (state : FeedJoinState) : Type 0 where
 -- the rows of a side end in front of one whose score, this one, is greater than the score of the last of them
 pub record IsRise (rows : List FeedRow) (row before got : ℕ) : Type 0 where
   pub few : length rows < most_rows
-  pub row : row ≡ suc (length rows)
-  pub before : last_score rows ≡ Some before
+  pub number : row ≡ suc (length rows)
+  pub last : last_score rows ≡ Some before
   pub more : before < got
 
 -- a fault tells a row that was refused, whatever its feed tells of its rows: its side hadn't ended, and the row rose, or was one too many

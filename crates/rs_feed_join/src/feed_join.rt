@@ -1,9 +1,9 @@
-ghost use Rattle.std.specs.Prelude.{◌≡◌, ◌↔◌, ◌≤◌, ◌-◌, List, length, slice_get, Some, Err, true};
+ghost use Rattle.std.specs.Prelude.{◌≡◌, ◌↔◌, ◌≤◌, ◌-◌, ◌||◌, List, length, slice_get, None, Some, Ok, Err, true, false};
 ghost use Rattle.rs_feed.specs.declared.feed_row.FeedRow.{FeedRow};
 ghost use Rattle.rs_feed_join.specs.Answers.{IsNext, MayBe};
 ghost use Rattle.rs_feed_join.specs.Cuts.{HaveScores, most_rows};
-ghost use Rattle.rs_feed_join.specs.Joins.{IsAfter, IsKept, new_feed_join, side_in};
-ghost use Rattle.rs_feed_join.specs.Sides.{IsDrawnOf, side_of};
+ghost use Rattle.rs_feed_join.specs.Joins.{IsAfter, IsKept, IsRefusal, new_feed_join, side_in};
+ghost use Rattle.rs_feed_join.specs.Sides.{IsCounted, IsDrawnOf, side_of};
 ghost use Rattle.rs_value.specs.Outside.{Counts};
 
 use crate::fault::JoinFault;
@@ -72,14 +72,19 @@ impl FeedJoin {
         ensures untold { (lefts rights : List FeedRow) → MayBe 1 lefts self.new.left result → MayBe 2 rights self.new.right result
             → IsNext lefts rights self.old.given self.new.left self.new.right result }
 
-        // An earlier call failed exactly where this one says so, and then nothing is drawn.
+        // A row that is refused, whatever its feed tells.
+        ensures refused { IsRefusal self.new result }
+
+        // An earlier call failed exactly where this one says so. Behind such a call, and behind the end, nothing is drawn.
         ensures broken { (result ≡ Err JoinFault.Broken) ↔ (self.old.broken ≡ true) }
-        ensures still { self.old.broken ≡ true
+        ensures over { self.old.broken ≡ false → self.old.finished ≡ true → result ≡ Ok None }
+        ensures still { (self.old.broken || self.old.finished) ≡ true
             → (self.new ≡ self.old) × (L.state left.new ≡ L.state left.old) × (R.state right.new ≡ R.state right.old) }
 
         // What the call leaves.
         ensures after { IsAfter self.old self.new result }
         ensures kept { IsKept self.new }
+        ensures counted { self.new.broken ≡ false → IsCounted self.new.left × IsCounted self.new.right }
         ensures left { IsDrawnOf self.new.broken (L.state left.new) self.new.left }
         ensures right { IsDrawnOf self.new.broken (R.state right.new) self.new.right }
         ensures left_told { (L.state left.new).outside.told ≡ (L.state left.old).outside.told }
