@@ -1,12 +1,11 @@
 -- What a join answers where it stands, and which of the asks it has made.
-use Rattle.std.proofs.Common.{◌≡◌, ℕ, zero, suc, ◌+◌, ◌<◌, ◌≤◌, ◌^◌, ◌==◌, ◌&&◌, Bool, true, false, cond, nat_lt, List, [], ◌∷◌, ◌++◌, find, length, map, option_map, take, drop, unwrap_or, Option, Some, None, Result, Ok, Err, slice_get, slice_index, refl, sym, ◌∙◌, ap, ap₂, subst, ◌⊎◌, inl, inr, arith}
+use Rattle.std.proofs.Common.{◌≡◌, ℕ, zero, suc, ◌<◌, ◌≤◌, ◌==◌, ◌&&◌, Bool, true, false, cond, nat_lt, List, [], ◌∷◌, ◌++◌, find, length, map, option_map, take, drop, unwrap_or, Option, Some, None, Ok, Err, slice_get, slice_index, refl, sym, ◌∙◌, ap, ap₂, subst, ◌⊎◌, inl, inr, arith}
 use Rattle.std.proofs.lemmas.Bool.Decides.{nat_tests}
 use Rattle.std.proofs.lemmas.List.{append-nil, append_assoc, length-append, length-map, take-map}
 use Rattle.std.specs.List.{AllByRecursion}
 use Rattle.rs_feed.specs.declared.feed_row.FeedRow.{FeedRow}
 use Rattle.rs_hrjn.specs.Drawn.{rows_of}
 use Rattle.rs_hrjn.specs.Hashed.{joined_of}
-use Rattle.rs_order.specs.Last.{last_of}
 use Rattle.rs_order.specs.Schedule.{JoinSide, Left, Right, SideAsk, asked}
 use Rattle.rs_order.proofs.EachFacts.{each-weaker}
 use Rattle.rs_order.proofs.PartFacts.{slice_get-shared}
@@ -19,20 +18,19 @@ use Rattle.rs_ripple.specs.Stands.{BeginsWith, answers}
 use Rattle.rs_ripple.proofs.LawFacts.{ready-settled, settled-now, slice_get_none}
 use Rattle.rs_ripple.proofs.ScheduleFacts.{BeginsWith-itself, BeginsWith-more}
 use Rattle.rs_ripple.proofs.StandFacts.{stands-tells}
-use Rattle.rs_feed_join.specs.declared.fault.JoinFault.{JoinFault}
 use Rattle.rs_feed_join.specs.declared.fault.JoinFault.TheVariants.{OutOfOrder, TooLong}
 use Rattle.rs_feed_join.specs.declared.feed_pair.FeedPair.{FeedPair}
-use Rattle.rs_feed_join.specs.Answers.{Answers, BreaksOff, HasDrawn, answer_by, asks_of_cuts, draws_for, fault_at, fault_behind, is_refused, lies_past, next_answer, up_to}
-use Rattle.rs_feed_join.specs.Cuts.{Falls, HaveScores, cut, last_score, most_rows, refusal, order_refusal, rises}
-use Rattle.rs_feed_join.specs.Joins.{Continues, pairs_drawn}
+use Rattle.rs_feed_join.specs.Answers.{Answers, BreaksOff, HasDrawn, answer_by, asks_of_cuts, draws_for, fault_behind, is_refused, lies_past, up_to}
+use Rattle.rs_feed_join.specs.Cuts.{HaveScores, cut, last_score, most_rows, rises}
+use Rattle.rs_feed_join.specs.Joins.{Continues}
 use Rattle.rs_feed_join.specs.Pairs.{joined_pairs, pair_of}
 use Rattle.rs_feed_join.specs.Parts.{IsAnswered, IsAnsweredBy, PartsState, StandsAt, asked_once_more}
-use Rattle.rs_feed_join.specs.Ranked.{asks_of_rows, join_of_rows, left_row, left_rows, right_rows, row_of}
+use Rattle.rs_feed_join.specs.Ranked.{asks_of_rows, join_of_rows, left_rows, right_rows, row_of}
 use Rattle.rs_feed_join.specs.Sides.{AreTaken, FeedSide}
 use Rattle.rs_feed_join.proofs.HashFacts.{rows-left, rows-right}
 use Rattle.rs_feed_join.proofs.PairFacts.{IsPairIn, answers-are, get-take, in-pairs, rank_of}
 use Rattle.rs_feed_join.proofs.RowFacts.{begins-append, cut-begins, cut-falls, cut-long, cut-rises, cut-scores, cut-whole, none_at, same_at, split}
-use Rattle.rs_feed_join.proofs.StandFacts.{itself, left-raised, left-still, past-end, right-raised, right-still}
+use Rattle.rs_feed_join.proofs.StandFacts.{itself, left-still, past-end, right-still}
 
 -- the cut of a feed goes on with the rows that were drawn of it
 pub cut-continues : (side : FeedSide) (rows : List FeedRow) → AreTaken side.rows → HaveScores rows → BeginsWith rows side.rows → (side.ended ≡ true → rows ≡ side.rows) → Continues side (cut rows)

@@ -1,12 +1,11 @@
 -- What the calls on one side do: a refusal, a draw, and the last row.
-use Rattle.std.proofs.Common.{◌≡◌, ℕ, zero, suc, ◌+◌, ◌-◌, ◌<◌, ◌≤◌, ◌^◌, ◌==◌, Bool, true, false, cond, nat_lt, List, [], ◌∷◌, ◌++◌, get_or, length, option_map, take, unwrap_or, Option, Some, None, Result, Ok, Err, is_err, slice_get, refl, sym, ◌∙◌, ap, ap₂, subst, ◌⊎◌, inl, inr, arith}
+use Rattle.std.proofs.Common.{◌≡◌, ℕ, zero, suc, ◌-◌, ◌<◌, ◌≤◌, ◌^◌, ◌==◌, Bool, true, false, cond, nat_lt, List, [], ◌∷◌, ◌++◌, get_or, length, option_map, unwrap_or, Option, Some, None, Result, Ok, Err, is_err, slice_get, refl, sym, ◌∙◌, ap, subst, inl, inr, arith}
 use Rattle.std.proofs.lemmas.Bool.{true≢false}
 use Rattle.std.proofs.lemmas.Bool.Decides.{nat_tests}
 use Rattle.std.proofs.lemmas.List.{take_all}
 use Rattle.std.specs.Option.{IfSome}
 use Rattle.std.specs.Prelude.{IsSome}
 use Rattle.rs_feed.specs.declared.feed_row.FeedRow.{FeedRow}
-use Rattle.rs_feed.specs.declared.feed.FeedFault.{FeedFault}
 use Rattle.rs_feed.specs.Feeds.{FeedState, GivesNext}
 use Rattle.rs_order.specs.Last.{last_from, last_of}
 use Rattle.rs_ripple.specs.Stands.{BeginsWith}
@@ -17,7 +16,7 @@ use Rattle.rs_value.specs.Outside.{Counts, Outside}
 use Rattle.rs_feed_join.specs.declared.fault.JoinFault.{JoinFault}
 use Rattle.rs_feed_join.specs.declared.fault.JoinFault.TheVariants.{OutOfOrder, TooLong, Failed, Memory, Broken}
 use Rattle.rs_feed_join.specs.Cuts.{last_score, most_rows, order_refusal, refusal, rises}
-use Rattle.rs_feed_join.specs.Sides.{AreTaken, Drew, FeedSide, HasCause, HasNext, IsCause, IsDrawnOf, Took}
+use Rattle.rs_feed_join.specs.Sides.{AreTaken, Drew, FeedSide, HasCause, HasNext, IsCause, IsDrawnOf}
 use Rattle.rs_feed_join.proofs.RowFacts.{length-snoc, none_at, same_at}
 
 -- a call that failed, and one that didn't

@@ -1,8 +1,6 @@
 -- A core is fed the last row of a side: what the call asks for, and where the join stands behind it.
-use Rattle.std.proofs.Common.{◌≡◌, ℕ, zero, suc, ◌+◌, ◌<◌, ◌≤◌, ◌^◌, Bool, true, false, Result, Ok, Err, List, [], ◌∷◌, ◌++◌, length, Option, Some, slice_get, refl, sym, ◌∙◌, ap, ap₂, subst, arith}
-use Rattle.std.specs.List.{AllByRecursion}
+use Rattle.std.proofs.Common.{◌≡◌, ℕ, ◌+◌, ◌<◌, ◌≤◌, ◌^◌, Bool, true, false, Ok, List, [], ◌∷◌, ◌++◌, length, Option, Some, sym, ◌∙◌, ap, subst, arith}
 use Rattle.rs_feed.specs.declared.feed_row.FeedRow.{FeedRow}
-use Rattle.rs_hrjn.specs.Drawn.{DrawnRow}
 use Rattle.rs_hrjn.specs.Hashed.{Hashed, HaveTheirValues, MatchTheirValues, hash_left, hash_right, joined_of}
 use Rattle.rs_order.specs.Last.{last_of}
 use Rattle.rs_order.specs.Schedule.{Left, Right, SideAsk}
@@ -13,11 +11,11 @@ use Rattle.rs_ripple.proofs.ScheduleFacts.{BeginsWith-itself}
 use Rattle.rs_value.specs.Faults.{raised}
 use Rattle.rs_value.specs.declared.value.Value.TheVariants.{Text}
 use Rattle.rs_feed_join.specs.Parts.{PartsState, StandsAt, asked_once_more}
-use Rattle.rs_feed_join.specs.Ranked.{hashed_left, hashed_right, left_row, numbered, right_row, row_of, same_texts}
+use Rattle.rs_feed_join.specs.Ranked.{left_row, right_row, row_of, same_texts}
 use Rattle.rs_feed_join.specs.Sides.{AreTaken, Drew, Ended, FeedSide, Took}
 use Rattle.rs_feed_join.proofs.CallFacts.{last-pushed}
 use Rattle.rs_feed_join.proofs.HashFacts.{left-matches, left-values, right-matches, right-values}
-use Rattle.rs_feed_join.proofs.PairFacts.{Has, has-begins}
+use Rattle.rs_feed_join.proofs.PairFacts.{has-begins}
 use Rattle.rs_feed_join.proofs.RowFacts.{length-snoc, same_at}
 use Rattle.rs_feed_join.proofs.StandFacts.{at-end, can-left, can-right, ends-left, ends-right, fits-left, fits-right, stands-left, stands-right, taken-push, with_left, with_right}
 

@@ -1,9 +1,8 @@
 -- Rows with their texts as join values, and what one more of them does to a join.
-use Rattle.std.proofs.Common.{◌≡◌, ℕ, zero, suc, ◌+◌, Bool, true, false, List, [], ◌∷◌, ◌++◌, map, length, Some, slice_get, refl, sym, ◌∙◌, ap, ap₂, subst, arith}
-use Rattle.std.proofs.lemmas.List.{length-append, map-append}
+use Rattle.std.proofs.Common.{◌≡◌, ℕ, suc, ◌+◌, List, [], ◌∷◌, ◌++◌, map, length, Some, refl, sym, ◌∙◌, ap, ap₂}
+use Rattle.std.proofs.lemmas.List.{map-append}
 use Rattle.std.proofs.lemmas.Slice.Eq.{bytes_eq-Decides}
-use Rattle.std.specs.List.{AllByRecursion, filter}
-use Rattle.std.specs.Str.{bytes_eq}
+use Rattle.std.specs.List.{filter}
 use Rattle.rs_feed.specs.declared.feed_row.FeedRow.{FeedRow}
 use Rattle.rs_hrjn.specs.Drawn.{DrawnRow, rows_of}
 use Rattle.rs_hrjn.specs.Hashed.{Hashed, HaveTheirValues, MatchTheirValues, hash_left, hash_right, joined_of}
@@ -11,12 +10,11 @@ use Rattle.rs_order.specs.Sorting.{sorted}
 use Rattle.rs_rank.specs.declared.row.RankRow.{RankRow}
 use Rattle.rs_rank.specs.Keys.{key_cmp}
 use Rattle.rs_rank.specs.Rows.{merge_row}
-use Rattle.rs_ripple.specs.Joined.{Joined, fed_left, fed_right, is_behind, left_key, right_key}
+use Rattle.rs_ripple.specs.Joined.{fed_left, fed_right, is_behind, left_key, right_key}
 use Rattle.rs_ripple.specs.Pairs.{pairs}
 use Rattle.rs_ripple.specs.Ripple.{Ripple, full_key, left_drawn, right_drawn}
 use Rattle.rs_ripple.specs.Stands.{BeginsWith}
 use Rattle.rs_ripple.proofs.ScheduleFacts.{BeginsWith-itself}
-use Rattle.rs_value.specs.declared.value.Value.{Value}
 use Rattle.rs_value.specs.declared.value.Value.TheVariants.{Text}
 use Rattle.rs_feed_join.specs.Ranked.{hashed_left, hashed_right, left_row, left_rows, numbered, right_row, right_rows, row_of, same_texts}
 use Rattle.rs_feed_join.proofs.PairFacts.{Has, has-first, has-rest, matching, pairs-are}

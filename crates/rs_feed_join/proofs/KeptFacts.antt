@@ -1,15 +1,12 @@
 -- What a join of two feeds keeps: the pairs that it gave are certain, and the last of them comes before all that can still come.
-use Rattle.std.proofs.Common.{◌≡◌, ℕ, zero, suc, ◌+◌, ◌<◌, ◌≤◌, ◌==◌, ◌&&◌, ◌||◌, Bool, true, false, cond, not, nat_lt, List, [], ◌∷◌, ◌++◌, length, map, option_map, take, Option, Some, None, slice_get, refl, sym, ◌∙◌, ap, ap₂, subst, ◌⊎◌, inl, inr, arith}
+use Rattle.std.proofs.Common.{◌≡◌, ℕ, zero, suc, ◌+◌, ◌<◌, ◌≤◌, ◌==◌, ◌&&◌, ◌||◌, Bool, true, false, cond, not, nat_lt, List, [], ◌∷◌, length, map, option_map, take, Option, Some, None, slice_get, refl, sym, ◌∙◌, ap, ap₂, subst, arith}
 use Rattle.std.proofs.lemmas.Bool.{true≢false}
 use Rattle.std.proofs.lemmas.Bool.Decides.{nat_tests}
 use Rattle.std.proofs.lemmas.List.{length-map, take_all}
-use Rattle.std.specs.Option.{IfSome}
 use Rattle.std.specs.Ordering.{is_gt, nat_cmp, ordering_then}
 use Rattle.std.specs.declared.cmp.Ordering.{Ordering}
 use Rattle.std.specs.declared.cmp.Ordering.TheVariants.{Less, Equal, Greater}
 use Rattle.rs_feed.specs.declared.feed_row.FeedRow.{FeedRow}
-use Rattle.rs_hrjn.specs.Drawn.{rows_of}
-use Rattle.rs_hrjn.specs.Hashed.{joined_of}
 use Rattle.rs_order.specs.Asks.{bar_after}
 use Rattle.rs_order.specs.Climbing.{IsNoLater}
 use Rattle.rs_order.specs.Last.{last_from, last_of}
@@ -21,12 +18,10 @@ use Rattle.rs_rank.specs.declared.key.Key.{Key}
 use Rattle.rs_rank.specs.declared.row.RankRow.{RankRow}
 use Rattle.rs_rank.specs.Keys.{key_cmp}
 use Rattle.rs_rank.specs.Merging.{merge_key}
-use Rattle.rs_rank.specs.Rows.{first_key, key_of, merge_row}
+use Rattle.rs_rank.specs.Rows.{first_key, key_of}
 use Rattle.rs_ripple.specs.declared.side.Drawn.{Drawn}
-use Rattle.rs_ripple.specs.declared.side.Input.{Input}
-use Rattle.rs_ripple.specs.Joined.{JoinStands, left_key, right_key}
-use Rattle.rs_ripple.specs.Ripple.{HasReached, IsTakenReached, Ripple, ask_drawn, ask_first, ask_of, is_reached, left_threshold, pair_key, right_threshold, unless_ended}
-use Rattle.rs_ripple.specs.Stands.{BeginsWith, answer_key, answers, drawn_of, side_keys, state_after, taken_after}
+use Rattle.rs_ripple.specs.Ripple.{HasReached, IsTakenReached, Ripple, ask_drawn, ask_first, ask_of, is_reached, pair_key}
+use Rattle.rs_ripple.specs.Stands.{answer_key, answers, drawn_of, side_keys, state_after, taken_after}
 use Rattle.rs_ripple.proofs.ScheduleFacts.{BeginsWith-itself}
 use Rattle.rs_ripple.proofs.SideFacts.{merged_key-rows}
 use Rattle.rs_feed_join.specs.declared.feed_pair.FeedPair.{FeedPair}
@@ -36,7 +31,6 @@ use Rattle.rs_feed_join.specs.Parts.{PartsState, StandsAt, join_state}
 use Rattle.rs_feed_join.specs.Ranked.{feed_weights, join_of_rows, left_row, left_rows, left_side, numbered, right_row, right_rows, right_side}
 use Rattle.rs_feed_join.specs.Sides.{FeedSide, answered}
 use Rattle.rs_feed_join.proofs.AnswerFacts.{all-given, given-certain, pairs-length}
-use Rattle.rs_feed_join.proofs.HashFacts.{rows-left, rows-right}
 use Rattle.rs_feed_join.proofs.PairFacts.{answers-are, merged-is, rank_of}
 use Rattle.rs_feed_join.proofs.RankedFacts.{length-numbered}
 use Rattle.rs_feed_join.proofs.RowFacts.{none_at}

@@ -1,20 +1,19 @@
 -- The pairs of rows, as the join of ranked rows has them.
-use Rattle.std.proofs.Common.{◌≡◌, ℕ, zero, suc, ◌+◌, ◌<◌, ◌≤◌, ◌==◌, Bool, true, false, cond, List, [], ◌∷◌, ◌++◌, map, option_map, length, take, drop, Option, Some, None, slice_get, refl, sym, ◌∙◌, ap, ap₂, subst, inl, inr, arith, rules}
+use Rattle.std.proofs.Common.{◌≡◌, ℕ, zero, suc, ◌+◌, ◌<◌, ◌≤◌, ◌==◌, Bool, true, false, cond, List, [], ◌∷◌, ◌++◌, map, length, take, Some, slice_get, refl, sym, ◌∙◌, ap, ap₂, subst, arith}
 use Rattle.std.proofs.lemmas.Bool.Decides.{nat_tests}
-use Rattle.std.proofs.lemmas.List.{map-append, length-map}
+use Rattle.std.proofs.lemmas.List.{map-append}
 use Rattle.std.specs.Cmp.{nat_cmp_is}
-use Rattle.std.specs.List.{AllByRecursion, filter, flat_map}
+use Rattle.std.specs.List.{AllByRecursion, filter}
 use Rattle.std.specs.Ordering.{nat_cmp, ordering_then}
 use Rattle.std.specs.Str.{bytes_eq}
 use Rattle.std.specs.declared.cmp.Ordering.TheVariants.{Less, Equal}
 use Rattle.rs_feed.specs.declared.feed_row.FeedRow.{FeedRow}
-use Rattle.rs_order.specs.Climbing.{Climbs, In, Precedes}
-use Rattle.rs_order.proofs.EachFacts.{each-append, each-map, each-slice_get, each-weaker}
+use Rattle.rs_order.specs.Climbing.{Climbs, Precedes}
+use Rattle.rs_order.proofs.EachFacts.{each-append, each-map}
 use Rattle.rs_rank.specs.declared.row.RankRow.{RankRow}
 use Rattle.rs_order.specs.Sorting.{sorted}
 use Rattle.rs_rank.specs.Keys.{ids_cmp, key_cmp}
 use Rattle.rs_rank.specs.Rows.{key_of, merge_row}
-use Rattle.rs_rank.specs.Stable.{stable}
 use Rattle.rs_rank.proofs.SortedFacts.{stable-by_key}
 use Rattle.rs_rank.proofs.StableFacts.{AllByRecursion-stable, stable-map}
 use Rattle.rs_ripple.specs.Pairs.{pairs, pairs_with}

@@ -1,8 +1,8 @@
 -- Rows by their numbers, and as rows of the sides of a join.
-use Rattle.std.proofs.Common.{◌≡◌, ℕ, zero, suc, ◌+◌, ◌<◌, ◌≤◌, ◌⊎◌, inl, inr, ◌^◌, List, [], ◌∷◌, ◌++◌, option_map, length, take, Option, Some, None, slice_get, refl, sym, ◌∙◌, ap, subst, arith}
+use Rattle.std.proofs.Common.{◌≡◌, ℕ, zero, suc, ◌+◌, ◌<◌, ◌≤◌, ◌⊎◌, inl, inr, ◌^◌, List, [], ◌∷◌, ◌++◌, option_map, length, take, Some, slice_get, refl, sym, ◌∙◌, ap, arith}
 use Rattle.std.specs.Cmp.{nat_cmp_is}
 use Rattle.std.specs.List.{AllByRecursion}
-use Rattle.std.specs.Ordering.{flip_args, nat_cmp, ordering_then}
+use Rattle.std.specs.Ordering.{nat_cmp, ordering_then}
 use Rattle.std.specs.declared.cmp.Ordering.{Ordering}
 use Rattle.std.specs.declared.cmp.Ordering.TheVariants.{Less, Equal}
 use Rattle.rs_feed.specs.declared.feed_row.FeedRow.{FeedRow}
@@ -13,7 +13,7 @@ use Rattle.rs_rank.specs.Keys.{key_cmp}
 use Rattle.rs_rank.specs.Rows.{HaveOtherIds}
 use Rattle.rs_ripple.specs.declared.side.Side.{Side}
 use Rattle.rs_ripple.specs.Ripple.{CanJoin}
-use Rattle.rs_ripple.specs.Stands.{AreRowsOf, AreSidesOf, IsRowOf, Join, side_key}
+use Rattle.rs_ripple.specs.Stands.{AreSidesOf, IsRowOf, Join, side_key}
 use Rattle.rs_feed_join.specs.Cuts.{Falls, HaveScores}
 use Rattle.rs_feed_join.specs.Ranked.{feed_weights, join_of_rows, left_row, left_rows, left_side, numbered, right_row, right_rows, right_side}
 use Rattle.rs_feed_join.proofs.RowFacts.{falls-below}

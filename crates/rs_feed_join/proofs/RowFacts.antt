@@ -1,12 +1,12 @@
 -- Rows whose scores fall, and the longest fronts in which they do.
-use Rattle.std.proofs.Common.{◌≡◌, ℕ, zero, suc, ◌<◌, ◌≤◌, ◌^◌, Bool, true, false, cond, nat_lt, List, [], ◌∷◌, ◌++◌, option_map, length, take, drop, Option, Some, None, slice_get, refl, sym, ◌∙◌, ap, subst, arith}
+use Rattle.std.proofs.Common.{◌≡◌, ℕ, zero, suc, ◌<◌, ◌≤◌, ◌^◌, Bool, true, false, cond, nat_lt, List, [], ◌∷◌, ◌++◌, length, take, drop, Option, Some, None, refl, sym, ◌∙◌, ap, arith}
 use Rattle.std.proofs.lemmas.Bool.Decides.{nat_tests}
-use Rattle.std.proofs.lemmas.List.{append-nil, length-append, take-append-drop, take-append-le, take-take, take_all, take_at}
+use Rattle.std.proofs.lemmas.List.{append-nil, take-append-drop, take-take, take_all, take_at}
 use Rattle.std.specs.List.{AllByRecursion}
 use Rattle.std.specs.Ordering.{flip_args, is_gt, nat_cmp}
 use Rattle.rs_feed.specs.declared.feed_row.FeedRow.{FeedRow}
 use Rattle.rs_order.specs.Climbing.{IsNoLater}
-use Rattle.rs_order.specs.Last.{last_from, last_of}
+use Rattle.rs_order.specs.Last.{last_from}
 use Rattle.rs_order.proofs.EachFacts.{each-take, each-weaker}
 use Rattle.rs_ripple.specs.Stands.{BeginsWith}
 use Rattle.rs_feed_join.specs.Cuts.{Falls, HaveScores, cut, falling_behind, last_score, most_rows, rises}

@@ -1,19 +1,18 @@
 -- Where a join of two feeds stands, row after row.
-use Rattle.std.proofs.Common.{◌≡◌, ℕ, zero, suc, ◌+◌, ◌-◌, ◌<◌, ◌≤◌, ◌^◌, ◌==◌, Bool, true, false, cond, nat_lt, List, [], ◌∷◌, ◌++◌, length, min, option_map, take, Option, Some, None, slice_get, refl, sym, ◌∙◌, ap, ap₂, subst, ◌⊎◌, inl, inr, arith}
+use Rattle.std.proofs.Common.{◌≡◌, ℕ, zero, suc, ◌+◌, ◌<◌, ◌≤◌, ◌^◌, ◌==◌, Bool, true, false, cond, nat_lt, List, [], ◌∷◌, ◌++◌, length, option_map, take, Option, Some, None, slice_get, refl, sym, ◌∙◌, ap, subst, inl, inr, arith}
 use Rattle.std.proofs.lemmas.Bool.{true≢false}
 use Rattle.std.proofs.lemmas.Bool.Decides.{nat_tests}
-use Rattle.std.proofs.lemmas.List.{append_assoc, length-append, length-map, take-append-le, take_all}
+use Rattle.std.proofs.lemmas.List.{append_assoc, length-map, take-append-le, take_all}
 use Rattle.std.specs.List.{AllByRecursion}
 use Rattle.rs_feed.specs.declared.feed_row.FeedRow.{FeedRow}
 use Rattle.rs_hrjn.specs.Hashed.{Hashed, hash_left, hash_right, joined_of}
 use Rattle.rs_order.specs.Schedule.{JoinSide, Left, Right, SideAsk, asked}
 use Rattle.rs_order.proofs.EachFacts.{each-push, each-weaker}
 use Rattle.rs_order.proofs.ScheduleFacts.{asked-left, asked-right}
-use Rattle.rs_rank.specs.declared.ask.JoinAsk.TheVariants.{NeedLeft, NeedRight, Ready, End}
-use Rattle.rs_rank.specs.declared.row.RankRow.{RankRow}
-use Rattle.rs_ripple.specs.Joined.{CanFeedLeft, CanFeedRight, Fits, IsJoined, JoinStands, rest_for}
-use Rattle.rs_ripple.specs.Ripple.{CanEnd, Ripple, ask_of, left_ended, left_for, right_ended, taken_for}
-use Rattle.rs_ripple.specs.Stands.{BeginsWith, answers}
+use Rattle.rs_rank.specs.declared.ask.JoinAsk.TheVariants.{NeedLeft, NeedRight, Ready}
+use Rattle.rs_ripple.specs.Joined.{CanFeedLeft, CanFeedRight, Fits, IsJoined, JoinStands}
+use Rattle.rs_ripple.specs.Ripple.{CanEnd, Ripple, ask_of, left_ended, left_for, right_ended}
+use Rattle.rs_ripple.specs.Stands.{BeginsWith}
 use Rattle.rs_ripple.proofs.AfterFacts.{left-going, right-going}
 use Rattle.rs_ripple.proofs.FeedFacts.{row-joined}
 use Rattle.rs_ripple.proofs.RestFacts.{left_end-joined, rest-joined, right_end-joined}
@@ -22,10 +21,10 @@ use Rattle.rs_ripple.proofs.ScheduleFacts.{BeginsWith-itself}
 use Rattle.rs_value.specs.Faults.{raised}
 use Rattle.rs_value.specs.declared.value.Value.TheVariants.{Text}
 use Rattle.rs_feed_join.specs.declared.fault.JoinFault.{JoinFault}
-use Rattle.rs_feed_join.specs.Cuts.{Falls, HaveScores, last_score, most_rows, order_refusal, refusal, rises}
+use Rattle.rs_feed_join.specs.Cuts.{last_score, most_rows, order_refusal, refusal, rises}
 use Rattle.rs_feed_join.specs.Joins.{Continues}
 use Rattle.rs_feed_join.specs.Parts.{IsAnswered, IsAnsweredBy, PartsState, StandsAt, asked_once_more, new_parts}
-use Rattle.rs_feed_join.specs.Ranked.{hashed_left, hashed_right, join_of_rows, left_row, left_rows, numbered, right_row, right_rows, same_texts}
+use Rattle.rs_feed_join.specs.Ranked.{hashed_left, hashed_right, join_of_rows, left_row, left_rows, right_row, right_rows, same_texts}
 use Rattle.rs_feed_join.specs.Sides.{AreTaken, FeedSide, answered}
 use Rattle.rs_feed_join.proofs.HashFacts.{left-fed, right-fed}
 use Rattle.rs_feed_join.proofs.RankedFacts.{can-join, get-numbered, length-numbered, numbered-push, sides-are}

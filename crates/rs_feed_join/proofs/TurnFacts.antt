@@ -1,5 +1,5 @@
 -- From one ask to the next, and where a join of two feeds stops.
-use Rattle.std.proofs.Common.{◌≡◌, ℕ, zero, suc, ◌+◌, ◌-◌, ◌<◌, ◌≤◌, ◌==◌, Bool, true, false, cond, nat_lt, List, [], ◌∷◌, ◌++◌, length, option_map, take, unwrap_or, Option, Some, None, Result, Ok, Err, is_err, slice_get, refl, sym, ◌∙◌, ap, ap₂, subst, ◌⊎◌, inl, inr, arith}
+use Rattle.std.proofs.Common.{◌≡◌, ℕ, zero, suc, ◌<◌, ◌≤◌, ◌==◌, Bool, true, false, cond, nat_lt, List, [], ◌∷◌, ◌++◌, length, option_map, unwrap_or, Option, Some, None, Result, Ok, Err, slice_get, refl, sym, ◌∙◌, ap, subst, ◌⊎◌, inl, inr, arith}
 use Rattle.std.proofs.lemmas.Bool.{true≢false}
 use Rattle.std.proofs.lemmas.Bool.Decides.{nat_tests}
 use Rattle.std.specs.Option.{IfSome}
@@ -7,28 +7,28 @@ use Rattle.std.specs.Prelude.{IfOk, OnErr, OnOk}
 use Rattle.rs_feed.specs.declared.feed_row.FeedRow.{FeedRow}
 use Rattle.rs_feed.specs.Feeds.{FeedState}
 use Rattle.rs_order.specs.Last.{last_from, last_of}
-use Rattle.rs_order.specs.Schedule.{JoinSide, Left, Right, SideAsk, asked}
+use Rattle.rs_order.specs.Schedule.{Left, Right, SideAsk, asked}
 use Rattle.rs_rank.specs.declared.ask.JoinAsk.{JoinAsk}
 use Rattle.rs_rank.specs.declared.ask.JoinAsk.TheVariants.{NeedLeft, NeedRight, Ready, End}
 use Rattle.rs_ripple.specs.Ripple.{ask_of}
 use Rattle.rs_ripple.specs.Stands.{BeginsWith}
 use Rattle.rs_ripple.proofs.ScheduleFacts.{BeginsWith-append, BeginsWith-itself}
-use Rattle.rs_value.specs.Faults.{Rose, raised}
-use Rattle.rs_value.specs.Outside.{Counts, Keeps, Outside}
+use Rattle.rs_value.specs.Faults.{raised}
+use Rattle.rs_value.specs.Outside.{Counts, Outside}
 use Rattle.rs_value.proofs.OutsideFacts.{Keeps-refl, Keeps-then, Rose-from}
 use Rattle.rs_feed_join.specs.declared.fault.JoinFault.{JoinFault}
 use Rattle.rs_feed_join.specs.declared.fault.JoinFault.TheVariants.{OutOfOrder, TooLong, Failed, Memory, Broken}
 use Rattle.rs_feed_join.specs.declared.feed_pair.FeedPair.{FeedPair}
-use Rattle.rs_feed_join.specs.Answers.{Answers, BreaksOff, Fails, HasRefused, IsNext, MayBe, draws_for, fault_behind, lies_past, number_of}
-use Rattle.rs_feed_join.specs.Cuts.{last_score, most_rows, order_refusal, refusal, rises}
+use Rattle.rs_feed_join.specs.Answers.{Answers, IsNext, MayBe, lies_past, number_of}
+use Rattle.rs_feed_join.specs.Cuts.{last_score, most_rows, refusal, rises}
 use Rattle.rs_feed_join.specs.Joins.{FeedJoinState, IsKept, IsRefusal, IsRise, IsSide, given_after, pairs_drawn, side_in}
-use Rattle.rs_feed_join.specs.Parts.{Advanced, HasToldRefused, IsStanding, PartsState, SideDrew, StandsAt, Turn, asked_once_more, draws_left, join_state}
-use Rattle.rs_feed_join.specs.Sides.{AreTaken, Ended, FeedSide, HasCause, HasNext, IsDrawnOf, Refused, Took}
+use Rattle.rs_feed_join.specs.Parts.{Advanced, HasToldRefused, IsStanding, PartsState, StandsAt, Turn, asked_once_more, join_state}
+use Rattle.rs_feed_join.specs.Sides.{AreTaken, Ended, FeedSide, HasCause, IsDrawnOf, Took}
 use Rattle.rs_feed_join.proofs.AnswerFacts.{end-answers, get-length, left-breaks, left-refused, length-refused, next-there, order-refused, ready-answers, ready-breaks, right-breaks, right-refused}
 use Rattle.rs_feed_join.proofs.KeptFacts.{is-kept, is-whole}
 use Rattle.rs_feed_join.proofs.CallFacts.{counts-from, err-same, failed_with, ok_err}
 use Rattle.rs_feed_join.proofs.RowFacts.{none_at, same_at}
-use Rattle.rs_feed_join.proofs.StandFacts.{left-raised, left-rows, left-still, left-unended, right-raised, right-rows, right-still, right-unended}
+use Rattle.rs_feed_join.proofs.StandFacts.{left-raised, left-rows, left-unended, right-raised, right-rows, right-unended}
 
 -- calls, one after another
 pub counts-none : (object : Outside (List FeedRow)) → Counts ⊥ object object

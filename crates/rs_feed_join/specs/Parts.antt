@@ -4,7 +4,7 @@ use Rattle.std.specs.List.{AllByRecursion}
 use Rattle.rs_feed.specs.declared.feed_row.FeedRow.{FeedRow}
 use Rattle.rs_feed.specs.Feeds.{FeedState}
 use Rattle.rs_feed_join.specs.declared.fault.JoinFault.{JoinFault}
-use Rattle.rs_feed_join.specs.declared.fault.JoinFault.TheVariants.{Broken, Failed, Memory}
+use Rattle.rs_feed_join.specs.declared.fault.JoinFault.TheVariants.{Broken, Failed}
 use Rattle.rs_feed_join.specs.declared.feed_pair.FeedPair.{FeedPair}
 use Rattle.rs_feed_join.specs.declared.parts.JoinParts.{JoinParts}
 use Rattle.rs_hrjn.specs.Hashed.{Hashed, joined_of, new_hashed}

@@ -4,7 +4,6 @@ use Rattle.std.specs.Str.{bytes_eq}
 use Rattle.rs_feed.specs.declared.feed_row.FeedRow.{FeedRow}
 use Rattle.rs_hrjn.specs.Drawn.{DrawnRow}
 use Rattle.rs_order.specs.Schedule.{SideAsk}
-use Rattle.rs_rank.specs.declared.ids.Ids.{Ids}
 use Rattle.rs_rank.specs.declared.row.RankRow.{RankRow}
 use Rattle.rs_rank.specs.declared.weights.Weights.{Weights}
 use Rattle.rs_ripple.specs.declared.side.Side.{Side}

@@ -1,5 +1,5 @@
 -- The rows are those of the side.
-use Rattle.std.proofs.Common.{length, ap, sym, ◌∙◌}
+use Rattle.std.proofs.Common.{length, ap, ◌∙◌}
 use Rattle.rs_feed_join.specs.Sides.{FeedSide}
 use Rattle.rs_feed_join.proofs.feed_join.FeedJoin.drawn.Goals as goal
 

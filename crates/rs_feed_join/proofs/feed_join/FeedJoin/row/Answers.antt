@@ -1,5 +1,5 @@
 -- The row of a number stands one place in front of it.
-use Rattle.std.proofs.Common.{◌≡◌, ◌-◌, ◌<◌, ◌∙◌, length, slice_get, Some, ap, sym, arith}
+use Rattle.std.proofs.Common.{◌-◌, ◌∙◌, length, slice_get, ap, arith}
 use Rattle.rs_feed.specs.declared.feed_row.FeedRow.{FeedRow}
 use Rattle.rs_feed_join.specs.Sides.{FeedSide}
 use Rattle.rs_feed_join.proofs.CallFacts.{read-is}

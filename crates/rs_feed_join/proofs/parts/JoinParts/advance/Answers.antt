@@ -1,5 +1,5 @@
 -- Each draw leaves the join standing with one draw less to come; a pair is given once the join is ready.
-use Rattle.std.proofs.Common.{refl, sym}
+use Rattle.std.proofs.Common.{sym}
 use Rattle.rs_value.proofs.ResultFacts.{given-err}
 use Rattle.rs_feed_join.specs.Parts.{parts_of}
 use Rattle.rs_feed_join.specs.Sides.{side_of}

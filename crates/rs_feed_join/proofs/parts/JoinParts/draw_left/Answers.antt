@@ -1,10 +1,10 @@
 -- What came of the feed is told to the core: a row, which is taken back where there is no memory, or the end.
-use Rattle.std.proofs.Common.{◌≡◌, ◌∙◌, Bool, true, false, Result, Ok, Err, List, length, refl, sym, ap, subst, inl, inr, arith}
+use Rattle.std.proofs.Common.{◌≡◌, ◌∙◌, Bool, true, Result, Ok, Err, refl, sym, ap, subst, inl, inr, arith}
 use Rattle.std.specs.Prelude.{OnOk, is_ok, vec_len}
 use Rattle.rs_value.proofs.ResultFacts.{given-err}
 use Rattle.rs_feed_join.specs.declared.fault.JoinFault.TheVariants.{Failed, Memory}
 use Rattle.rs_feed_join.specs.Parts.{parts_of}
-use Rattle.rs_feed_join.specs.Sides.{FeedSide, IsDrawnOf, Took, side_of}
+use Rattle.rs_feed_join.specs.Sides.{FeedSide, IsDrawnOf, side_of}
 use Rattle.rs_value.specs.Faults.{raised}
 use Rattle.rs_feed_join.proofs.CallFacts.{counts-from, drawn-failed, err-same, failed_with, ok_err}
 use Rattle.rs_feed_join.proofs.DrawFacts.{left-fed-can, left-fed-exact, left-fed-few, left-fed-fits, left-fed-last, left-fed-stands, left-fed-values, taken-back}

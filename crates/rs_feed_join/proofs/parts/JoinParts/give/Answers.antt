@@ -1,12 +1,12 @@
 -- The pair that the core gives is the next one of the rows that were drawn.
-use Rattle.std.proofs.Common.{◌≡◌, ◌+◌, ◌≤◌, suc, List, length, slice_index, Some, None, Ok, Err, refl, sym, ◌∙◌, ap, subst, arith}
+use Rattle.std.proofs.Common.{◌≤◌, List, length, slice_index, refl, sym, ◌∙◌, ap, subst, arith}
 use Rattle.rs_value.proofs.ResultFacts.{given-err}
 use Rattle.rs_feed_join.specs.declared.fault.JoinFault.TheVariants.{Memory}
 use Rattle.rs_feed.specs.declared.feed_row.FeedRow.{FeedRow}
 use Rattle.rs_feed_join.specs.Parts.{StandsAt, parts_of}
 use Rattle.rs_feed_join.specs.Ranked.{row_of}
 use Rattle.rs_feed_join.proofs.AnswerFacts.{next-there}
-use Rattle.rs_feed_join.proofs.GiveFacts.{IsGiven, given-pair, left-within, right-within, taken-none, taken-some}
+use Rattle.rs_feed_join.proofs.GiveFacts.{given-pair, left-within, right-within, taken-none, taken-some}
 use Rattle.rs_feed_join.proofs.StandFacts.{alive, stands-taken}
 use Rattle.rs_feed_join.proofs.parts.JoinParts.give.Goals as goal
 

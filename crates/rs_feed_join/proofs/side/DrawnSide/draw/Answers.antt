@@ -1,10 +1,9 @@
 -- A row that was drawn is taken unless it is refused, and each answer of the feed is one draw.
-use Rattle.std.proofs.Common.{◌≡◌, ◌∙◌, Bool, true, false, Option, Some, None, Result, Ok, Err, refl, sym, ap, subst}
+use Rattle.std.proofs.Common.{◌≡◌, ◌∙◌, Bool, true, Some, None, Err, refl, sym, ap}
 use Rattle.rs_value.proofs.ResultFacts.{given-err}
-use Rattle.rs_feed_join.specs.declared.fault.JoinFault.{JoinFault}
 use Rattle.rs_feed_join.specs.declared.fault.JoinFault.TheVariants.{Failed, Memory}
 use Rattle.rs_feed_join.specs.Sides.{side_of}
-use Rattle.rs_feed_join.proofs.CallFacts.{cause-failed, cause-of, counts-from, ended-drawn, ended-drew, err-same, failed_with, next-is, ok_err, stopped-drawn, stopped-drew, took-drawn, took-drew}
+use Rattle.rs_feed_join.proofs.CallFacts.{cause-failed, cause-of, counts-from, ended-drawn, err-same, failed_with, next-is, ok_err, stopped-drawn, stopped-drew, took-drawn, took-drew}
 use Rattle.rs_feed_join.proofs.side.DrawnSide.draw.Goals as goal
 
 memory-failed : {side : _} → failed_with Bool Memory ≡ failed_with Bool (Failed side) → ⊥
