@@ -31,7 +31,7 @@ const PAIRS: Pairs = &[
     (3, 4, "a", 7, 2),
 ];
 
-fn feed_of(alloc: Global, rows: &[(&str, u32)]) -> Result<MemFeed, Fail>
+pub(crate) fn feed_of(alloc: Global, rows: &[(&str, u32)]) -> Result<MemFeed, Fail>
     ensures { IfOk result (λ feed. IsDrawnOf false (feed_state feed) new_side) }
 {
     let mut feed = MemFeed::new(alloc);
