@@ -1,7 +1,7 @@
 #!/usr/bin/env python3
 r"""Works out what joins of ranked feeds give and draw, and prints it as the cases of the crate test_feeds.
 
-The feeds are small and random, with many equal scores. Half of the joins have a feed with a score that rises at some place. What a
+The feeds are small and random, with many equal scores. Two thirds of the joins have feeds with a score that rises at some place. What a
 join gives is computed as it is defined, over finished lists: the rows in front of the first that rises, their pairs by their sums,
 and the asks by the keys of rows merged with the first row of the other side. There are no thresholds and no held pairs here. This
 makes the cases anew, at the top of the repository:
@@ -13,14 +13,13 @@ makes the cases anew, at the top of the repository:
 import random
 
 LETTERS = "abc"
+CASES = 8
 MOST = 4294967295
 HEAD = """//! Joins of random feeds: see checks/feeds.py.
 
 use crate::random::Case;
 
-/// The rows of both sides; the numbers of each pair, with the draws of both sides up to it; why the join stops: the side, the row, the
-/// score in front of it and its own, or nothing but zeros at the end; and the draws up to there.
-pub(crate) const CASES: &[Case] = &["""
+"""
 
 
 def front_of(feed):
@@ -93,13 +92,15 @@ def rows_written(feed):
 
 def main():
     draw = random.Random(20261130)
-    print(HEAD)
-    for number in range(60):
-        feeds = [random_feed(draw, number % 2 == 1), random_feed(draw, number % 2 == 1)]
-        given, stop, draws = joined(feeds)
-        pairs = written(str(pair) for pair in given)
-        print(f"    ({rows_written(feeds[0])}, {rows_written(feeds[1])}, {pairs}, {stop}, {draws}),")
-    print("];")
+    print(HEAD, end="")
+    for name, rises in ("FALLING", False), ("RISING", True), ("OTHERS", True):
+        print(f"pub(crate) const {name}: &[Case] = &[")
+        for _ in range(CASES):
+            feeds = [random_feed(draw, rises), random_feed(draw, rises)]
+            given, stop, draws = joined(feeds)
+            pairs = written(str(pair) for pair in given)
+            print(f"    ({rows_written(feeds[0])}, {rows_written(feeds[1])}, {pairs}, {stop}, {draws}),")
+        print("];")
 
 
 if __name__ == "__main__":

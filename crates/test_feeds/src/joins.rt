@@ -14,9 +14,9 @@ use std::test::Fail;
 // The left and the right number, the text, and both scores of each pair.
 type Pairs = &'static [(u32, u32, &'static str, u32, u32)];
 
-const LEFT: &[(&str, u32)] = &[("a", 9), ("b", 8), ("a", 7), ("c", 5), ("b", 1)];
+pub(crate) const LEFT: &[(&str, u32)] = &[("a", 9), ("b", 8), ("a", 7), ("c", 5), ("b", 1)];
 
-const RIGHT: &[(&str, u32)] = &[("b", 9), ("a", 6), ("c", 6), ("a", 2), ("d", 1)];
+pub(crate) const RIGHT: &[(&str, u32)] = &[("b", 9), ("a", 6), ("c", 6), ("a", 2), ("d", 1)];
 
 // The third score rises.
 const RISING: &[(&str, u32)] = &[("b", 9), ("a", 6), ("c", 7)];
@@ -83,7 +83,7 @@ fn assert_pairs<L: Feed, R: Feed>(
     }
 }
 
-fn assert_none<L: Feed, R: Feed>(
+pub(crate) fn assert_none<L: Feed, R: Feed>(
     rt: &impl Abort,
     join: &mut FeedJoin,
     left: &mut L,

@@ -7,4 +7,6 @@ mod cases;
 #[cfg(test)]
 mod joins;
 #[cfg(test)]
+mod memory;
+#[cfg(test)]
 mod random;

@@ -4,7 +4,7 @@ ghost use Rattle.std.specs.Prelude.{◌≡◌};
 ghost use Rattle.rs_feed.specs.MemFeed.{feed_state};
 ghost use Rattle.rs_feed_join.specs.Sides.{IsDrawnOf};
 
-use crate::cases::CASES;
+use crate::cases::{FALLING, OTHERS, RISING};
 use crate::joins::feed_of;
 use rs_feed::MemFeed;
 use rs_feed_join::{FeedJoin, JoinFault};
@@ -87,8 +87,24 @@ fn assert_case(rt: &impl Abort, alloc: Global, case: &Case) -> Result<(), Fail> 
 }
 
 #[test]
-fn random_feeds_are_joined(rt: HostRuntime) -> Result<(), Fail> {
-    for case in CASES {
+fn feeds_that_fall_are_joined(rt: HostRuntime) -> Result<(), Fail> {
+    for case in FALLING {
+        assert_case(&rt, rt.alloc(), case)?;
+    }
+    Ok(())
+}
+
+#[test]
+fn feeds_that_rise_are_joined_up_to_there(rt: HostRuntime) -> Result<(), Fail> {
+    for case in RISING {
+        assert_case(&rt, rt.alloc(), case)?;
+    }
+    Ok(())
+}
+
+#[test]
+fn other_feeds_that_rise_are_joined_up_to_there(rt: HostRuntime) -> Result<(), Fail> {
+    for case in OTHERS {
         assert_case(&rt, rt.alloc(), case)?;
     }
     Ok(())
