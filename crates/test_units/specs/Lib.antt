@@ -1,4 +1,5 @@
 pub mod Cores
 pub mod Joined
 pub mod Joins
+pub mod Seen
 pub mod Tables

@@ -2,9 +2,11 @@
 //! the numbers 8, 8 and 5 and an index of them; then 10 and 8 join. In the index 10 stands in front of all rows that were there, and the
 //! new 8 behind the two old ones.
 
-ghost use Rattle.std.specs.Prelude.{◌≡◌, ◌<◌, ◌∷◌, [], IfOk, length, true};
+ghost use Rattle.std.specs.Prelude.{◌≡◌, ◌<◌, ◌∷◌, [], IfOk, Some, length, true};
+ghost use Rattle.rs_catalog.specs.Indexes.{ranking_at};
 ghost use Rattle.rs_catalog.specs.Snapshot.{sizes_in};
-ghost use Rattle.rs_scan.specs.Scans.{IndexScan, IsOfAllRows, new_index_scan, scan_at};
+ghost use Rattle.rs_scan.specs.Scans.{IndexScan, IsOfAllRows, last_at};
+ghost use Rattle.test_units.specs.Seen.{drawn_once};
 
 use crate::growth::{add_index, assert_grown, number_of};
 use crate::tables::catalogue;
@@ -115,33 +117,38 @@ fn rows_of(catalog: &Snapshot<'_>, index: u8) -> u32
     catalog.table(catalog.index(index).table).len()
 }
 
+/// Whether the first entry of an index is of score 8 and the first row.
+fn is_first(catalog: &Snapshot<'_>, index: u8) -> bool
+    requires { index < length catalog.now.indexes }
+    ensures { result ≡ true → last_at (ranking_at catalog.now index) 1 ≡ Some (8, 1) }
+{
+    match catalog.index_after(index, None) {
+        Some((8, 1)) => true,
+        _ => false,
+    }
+}
+
 /// A scan of an index for a term of weight 3, which drew the first row.
 fn scan_of(rt: &impl Abort, catalog: &Snapshot<'_>, index: u8) -> RankScan
     requires { index < length catalog.now.indexes }
-    ensures { result ≡ scan_at catalog.now 1 (new_index_scan index 2 1 3 3) }
+    ensures { result ≡ drawn_once index }
 {
     let rows = rows_of(catalog, index);
     assert!(rt; rows == 3);
+    assert!(rt; is_first(catalog, index));
     let mut scan = RankScan::new(index, 2, 1, 3, rows);
     assert_row(rt, scan.next(catalog), Some((1, 24)));
     scan
 }
 
-/// Asserts the other rows of a scan that drew the first one, with its score and row.
-fn assert_others(
-    rt: &impl Abort,
-    catalog: &Snapshot<'_>,
-    index: u8,
-    first: Option<(u32, u32)>,
-    scan: &mut RankScan,
-)
+/// Asserts the other rows of such a scan.
+fn assert_others(rt: &impl Abort, catalog: &Snapshot<'_>, index: u8, scan: &mut RankScan)
     requires index { index < length catalog.now.indexes }
-    requires scan { scan.old ≡ record (new_index_scan index 2 1 3 3) { drawn = 1; last = first } }
+    requires scan { scan.old ≡ drawn_once index }
 {
     let rows = rows_of(catalog, index);
     assert!(rt; rows == 3);
-    let still = catalog.index_after(index, None);
-    assert!(rt; still == first);
+    assert!(rt; is_first(catalog, index));
     assert_row(rt, scan.next(catalog), Some((2, 24)));
     assert_row(rt, scan.next(catalog), Some((3, 15)));
     assert_row(rt, scan.next(catalog), None);
@@ -157,12 +164,12 @@ fn assert_goes_on(
 ) -> Result<(), Fail> {
     add_index(rt, alloc, catalog, "one", "p", scorer)?;
     let index = number_of(rt, alloc, catalog, What::Index, "one")?;
-    let first = Snapshot::current(catalog).index_after(index, None);
     let mut scan = scan_of(rt, &Snapshot::current(catalog), index);
     assert_grown(rt, alloc, catalog, (10, 8), scorer, Ok(()))?;
     assert_sizes(rt, alloc, catalog, 5, 3)?;
-    let index = number_of(rt, alloc, catalog, What::Index, "one")?;
-    assert_others(rt, &Snapshot::of(catalog, &[3]), index, first, &mut scan);
+    let still = number_of(rt, alloc, catalog, What::Index, "one")?;
+    assert!(rt; still == index);
+    assert_others(rt, &Snapshot::of(catalog, &[3]), index, &mut scan);
     assert_snapshots(rt, alloc, catalog, index)
 }
 
