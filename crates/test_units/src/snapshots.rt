@@ -117,14 +117,21 @@ fn rows_of(catalog: &Snapshot<'_>, index: u8) -> u32
     catalog.table(catalog.index(index).table).len()
 }
 
+/// Whether a score is 8, and a row the first one.
+fn are_first(score: u32, row: u32) -> bool
+    ensures { result ≡ true → (score ≡ 8) × (row ≡ 1) }
+{
+    score == 8 && row == 1
+}
+
 /// Whether the first entry of an index is of score 8 and the first row.
 fn is_first(catalog: &Snapshot<'_>, index: u8) -> bool
     requires { index < length catalog.now.indexes }
     ensures { result ≡ true → last_at (ranking_at catalog.now index) 1 ≡ Some (8, 1) }
 {
     match catalog.index_after(index, None) {
-        Some((8, 1)) => true,
-        _ => false,
+        Some((score, row)) => are_first(score, row),
+        None => false,
     }
 }
 
