@@ -114,9 +114,12 @@ cause-refusal : (number : ℕ) (told : Option (List FeedRow)) (side : FeedSide) 
 cause-refusal number told side (OutOfOrder s row before got) cause taken state is rows going =
     let facts = refused-order number side.rows cause.row.score s row before got cause.refused in
     let rise = score-rises (last_score side.rows) cause.row.score facts.1 in
-    subst (λ fault. IsRefusal state (Err fault)) (sym facts.2)
-    (is, going, subst (λ (xs : List FeedRow). IsRise xs (suc (length side.rows)) (unwrap_or (last_score side.rows) 0) cause.row.score) (sym rows)
-    (record { few = fewer (length side.rows) taken.few facts.0; number = refl; last = rise.0; more = rise.1 }))
+    subst (λ fault. IsRefusal state (Err fault)) (sym facts.2) (
+      is,
+      going,
+      subst (λ (xs : List FeedRow). IsRise xs (suc (length side.rows)) (unwrap_or (last_score side.rows) 0) cause.row.score) (sym rows)
+          (record { few = fewer (length side.rows) taken.few facts.0; number = refl; last = rise.0; more = rise.1 }),
+    )
 cause-refusal number told side (TooLong s) cause taken state is rows going =
     let facts = refused-length number side.rows cause.row.score s cause.refused in
     subst (λ fault. IsRefusal state (Err fault)) (sym facts.1)
