@@ -19,10 +19,10 @@ use Rattle.rs_value.proofs.OutsideFacts.{Keeps-refl, Keeps-then, Rose-from}
 use Rattle.rs_feed_join.specs.declared.fault.JoinFault.{JoinFault}
 use Rattle.rs_feed_join.specs.declared.fault.JoinFault.TheVariants.{OutOfOrder, TooLong, Failed, Memory, Broken}
 use Rattle.rs_feed_join.specs.declared.feed_pair.FeedPair.{FeedPair}
-use Rattle.rs_feed_join.specs.Answers.{Answers, IsNext, MayBe, lies_past, number_of}
+use Rattle.rs_feed_join.specs.Answers.{Answers, HasToldRefused, IsNext, MayBe, lies_past, number_of}
 use Rattle.rs_feed_join.specs.Cuts.{last_score, most_rows, refusal, rises}
 use Rattle.rs_feed_join.specs.Joins.{FeedJoinState, IsKept, IsRefusal, IsRise, IsSide, given_after, pairs_drawn, side_in}
-use Rattle.rs_feed_join.specs.Parts.{Advanced, HasToldRefused, IsStanding, PartsState, StandsAt, Turn, asked_once_more, join_state}
+use Rattle.rs_feed_join.specs.Parts.{Advanced, IsStanding, PartsState, StandsAt, Turn, asked_once_more, join_state}
 use Rattle.rs_feed_join.specs.Sides.{AreTaken, Ended, FeedSide, HasCause, IsDrawnOf, Took}
 use Rattle.rs_feed_join.proofs.AnswerFacts.{end-answers, get-length, left-breaks, left-refused, length-refused, next-there, order-refused, ready-answers, ready-breaks, right-breaks, right-refused}
 use Rattle.rs_feed_join.proofs.KeptFacts.{is-kept, is-whole}
