@@ -19,10 +19,10 @@ use Rattle.rs_value.proofs.OutsideFacts.{Keeps-refl, Keeps-then, Rose-from}
 use Rattle.rs_feed_join.specs.declared.fault.JoinFault.{JoinFault}
 use Rattle.rs_feed_join.specs.declared.fault.JoinFault.TheVariants.{OutOfOrder, TooLong, Failed, Memory, Broken}
 use Rattle.rs_feed_join.specs.declared.feed_pair.FeedPair.{FeedPair}
-use Rattle.rs_feed_join.specs.Answers.{Answers, IsNext, MayBe, lies_past, number_of}
+use Rattle.rs_feed_join.specs.Answers.{Answers, HasToldRefused, IsNext, MayBe, lies_past, number_of}
 use Rattle.rs_feed_join.specs.Cuts.{last_score, most_rows, refusal, rises}
 use Rattle.rs_feed_join.specs.Joins.{FeedJoinState, IsKept, IsRefusal, IsRise, IsSide, given_after, pairs_drawn, side_in}
-use Rattle.rs_feed_join.specs.Parts.{Advanced, HasToldRefused, IsStanding, PartsState, StandsAt, Turn, asked_once_more, join_state}
+use Rattle.rs_feed_join.specs.Parts.{Advanced, IsStanding, PartsState, StandsAt, Turn, asked_once_more, join_state}
 use Rattle.rs_feed_join.specs.Sides.{AreTaken, Ended, FeedSide, HasCause, IsDrawnOf, Took}
 use Rattle.rs_feed_join.proofs.AnswerFacts.{end-answers, get-length, left-breaks, left-refused, length-refused, next-there, order-refused, ready-answers, ready-breaks, right-breaks, right-refused}
 use Rattle.rs_feed_join.proofs.KeptFacts.{is-kept, is-whole}
@@ -114,9 +114,12 @@ cause-refusal : (number : ℕ) (told : Option (List FeedRow)) (side : FeedSide) 
 cause-refusal number told side (OutOfOrder s row before got) cause taken state is rows going =
     let facts = refused-order number side.rows cause.row.score s row before got cause.refused in
     let rise = score-rises (last_score side.rows) cause.row.score facts.1 in
-    subst (λ fault. IsRefusal state (Err fault)) (sym facts.2)
-    (is, going, subst (λ (xs : List FeedRow). IsRise xs (suc (length side.rows)) (unwrap_or (last_score side.rows) 0) cause.row.score) (sym rows)
-    (record { few = fewer (length side.rows) taken.few facts.0; number = refl; last = rise.0; more = rise.1 }))
+    subst (λ fault. IsRefusal state (Err fault)) (sym facts.2) (
+      is,
+      going,
+      subst (λ (xs : List FeedRow). IsRise xs (suc (length side.rows)) (unwrap_or (last_score side.rows) 0) cause.row.score) (sym rows)
+          (record { few = fewer (length side.rows) taken.few facts.0; number = refl; last = rise.0; more = rise.1 }),
+    )
 cause-refusal number told side (TooLong s) cause taken state is rows going =
     let facts = refused-length number side.rows cause.row.score s cause.refused in
     subst (λ fault. IsRefusal state (Err fault)) (sym facts.1)

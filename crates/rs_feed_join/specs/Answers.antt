@@ -93,6 +93,10 @@ HasRefused number rows side (Err (Failed refused)) = Unit {0}
 HasRefused number rows side (Err Memory) = Unit {0}
 HasRefused number rows side (Err Broken) = Unit {0}
 
+-- a feed that tells its rows has that row there
+abbrev pub HasToldRefused : ℕ → Option (List FeedRow) → FeedSide → Result (Option FeedPair) JoinFault → Type 0
+HasToldRefused number told side result = (rows : List FeedRow) → told ≡ Some rows → HasRefused number rows side result
+
 -- rows that a feed may have, of which this side was drawn up to this answer
 pub record MayBe (number : ℕ) (rows : List FeedRow) (side : FeedSide) (result : Result (Option FeedPair) JoinFault) : Type 0 where
   pub scores : HaveScores rows

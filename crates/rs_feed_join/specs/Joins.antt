@@ -69,17 +69,18 @@ pub record IsKept (state : FeedJoinState) : Type 0 where
   pub all : state.finished ≡ true → length (pairs_drawn state.left state.right) ≡ state.given
   pub over : state.finished ≡ true → no_pair_can_come state.left state.right ≡ true
 
--- the rows of a side end in front of one whose score, this one, is greater than the score of the last of them
+-- the row of this number, behind these rows, has a greater score than the last of them
 pub record IsRise (rows : List FeedRow) (row before got : ℕ) : Type 0 where
   pub few : length rows < most_rows
   pub number : row ≡ suc (length rows)
   pub last : last_score rows ≡ Some before
   pub more : before < got
 
--- a fault tells a row that was refused, whatever its feed tells of its rows: its side hadn't ended, and the row rose, or was one too many
+-- the number of a side
 abbrev pub IsSide : ℕ → Type 0
 IsSide side = (side ≡ 1) ⊎ (side ≡ 2)
 
+-- a fault tells a row that was refused, whatever its feed tells of its rows: its side hadn't ended, and the row rose, or was one too many
 abbrev pub IsRefusal : FeedJoinState → Result (Option FeedPair) JoinFault → Type 0
 IsRefusal state (Ok pair) = Unit {0}
 IsRefusal state (Err (OutOfOrder side row before got)) = IsSide side × ((side_in side state).ended ≡ false) × IsRise (side_in side state).rows row before got

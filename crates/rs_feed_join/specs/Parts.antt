@@ -1,5 +1,5 @@
 -- Where the parts of a join of two feeds stand, and what they do.
-use Rattle.std.specs.Prelude.{ℕ, suc, ◌≡◌, ◌≤◌, ◌⊎◌, ◌+◌, ◌-◌, Bool, true, false, List, [], ◌∷◌, ◌++◌, length, Result, Ok, Err, is_err, Option, Some, None, if◌then◌else◌}
+use Rattle.std.specs.Prelude.{ℕ, suc, ◌≡◌, ◌≤◌, ◌⊎◌, ◌+◌, ◌-◌, Bool, true, false, List, [], ◌∷◌, ◌++◌, length, Result, Ok, Err, is_err, Option, None, if◌then◌else◌}
 use Rattle.std.specs.List.{AllByRecursion}
 use Rattle.rs_feed.specs.declared.feed_row.FeedRow.{FeedRow}
 use Rattle.rs_feed.specs.Feeds.{FeedState}
@@ -14,7 +14,7 @@ use Rattle.rs_ripple.specs.Joined.{IsJoined, JoinStands}
 use Rattle.rs_ripple.specs.Ripple.{ask_of}
 use Rattle.rs_ripple.specs.Stands.{BeginsWith}
 use Rattle.rs_value.specs.Outside.{Counts}
-use Rattle.rs_feed_join.specs.Answers.{HasRefused, IsNext, MayBe}
+use Rattle.rs_feed_join.specs.Answers.{HasToldRefused, IsNext, MayBe}
 use Rattle.rs_feed_join.specs.Joins.{Continues, FeedJoinState, IsKept, IsRefusal, given_after}
 use Rattle.rs_feed_join.specs.Ranked.{feed_weights, hashed_left, hashed_right, join_of_rows, left_rows, left_side, numbered, right_rows, right_side}
 use Rattle.rs_feed_join.specs.Sides.{AreTaken, Ended, FeedSide, HasCause, IsDrawnOf, Took, answered, new_side, side_of}
@@ -73,10 +73,6 @@ asked_once_more side made = made ++ record { side = side; number = suc (asked si
 abbrev pub SideDrew : ℕ → Option (List FeedRow) → FeedSide → Result Unit JoinFault → FeedSide → Type 0
 SideDrew number told old (Ok done) new = Took number told old new ⊎ Ended told old new
 SideDrew number told old (Err fault) new = HasCause number told old fault × (new ≡ record old { draws = raised old.draws })
-
--- the row that a feed refused, where it tells its rows
-abbrev pub HasToldRefused : ℕ → Option (List FeedRow) → FeedSide → Result (Option FeedPair) JoinFault → Type 0
-HasToldRefused number told side result = (rows : List FeedRow) → told ≡ Some rows → HasRefused number rows side result
 
 -- what drawing up to the next pair does
 pub record Advanced (old new : PartsState) (left_old left_new right_old right_new : FeedState) (result : Result (Option FeedPair) JoinFault) : Type 0 where

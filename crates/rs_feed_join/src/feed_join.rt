@@ -1,6 +1,6 @@
 ghost use Rattle.std.specs.Prelude.{◌≡◌, ◌↔◌, ◌≤◌, ◌-◌, ◌||◌, List, length, slice_get, None, Some, Ok, Err, true, false};
 ghost use Rattle.rs_feed.specs.declared.feed_row.FeedRow.{FeedRow};
-ghost use Rattle.rs_feed_join.specs.Answers.{IsNext, MayBe};
+ghost use Rattle.rs_feed_join.specs.Answers.{HasToldRefused, IsNext, MayBe};
 ghost use Rattle.rs_feed_join.specs.Cuts.{HaveScores, most_rows};
 ghost use Rattle.rs_feed_join.specs.Joins.{IsAfter, IsKept, IsRefusal, new_feed_join, side_in};
 ghost use Rattle.rs_feed_join.specs.Sides.{IsCounted, IsDrawnOf, side_of};
@@ -72,8 +72,10 @@ impl FeedJoin {
         ensures untold { (lefts rights : List FeedRow) → MayBe 1 lefts self.new.left result → MayBe 2 rights self.new.right result
             → IsNext lefts rights self.old.given self.new.left self.new.right result }
 
-        // A row that is refused, whatever its feed tells.
+        // A row that is refused, whatever its feed tells, and where it tells its rows.
         ensures refused { IsRefusal self.new result }
+        ensures left_refused { HasToldRefused 1 (L.state left.old).outside.told self.new.left result }
+        ensures right_refused { HasToldRefused 2 (R.state right.old).outside.told self.new.right result }
 
         // An earlier call failed exactly where this one says so. Behind such a call, and behind the end, nothing is drawn.
         ensures broken { (result ≡ Err JoinFault.Broken) ↔ (self.old.broken ≡ true) }

@@ -42,6 +42,20 @@ pub(crate) fn feed_of(alloc: Global, rows: &[(&str, u32)]) -> Result<MemFeed, Fa
     Ok(feed)
 }
 
+/// So many rows with the text "a" and the score 5, and one more with this score.
+fn long_feed(alloc: Global, rows: u32, last: u32) -> Result<MemFeed, Fail>
+    ensures { IfOk result (λ feed. IsDrawnOf false (feed_state feed) new_side) }
+{
+    let mut feed = MemFeed::new(alloc);
+    for _row in 0..rows {
+        let join = Text::from_bytes(alloc, b"a")?;
+        feed.add(join, 5)?;
+    }
+    let join = Text::from_bytes(alloc, b"a")?;
+    feed.add(join, last)?;
+    Ok(feed)
+}
+
 fn assert_pair<L: Feed, R: Feed>(
     rt: &impl Abort,
     join: &mut FeedJoin,
@@ -182,5 +196,41 @@ fn breaks_off_where_a_draw_fails(rt: HostRuntime) -> Result<(), Fail> {
         Some(JoinFault::Broken),
     );
     assert_eq!(rt; (left.draws(), right.draws()), (3, 2));
+    Ok(())
+}
+
+// A feed that has as many rows as a join takes is drawn to its end.
+#[test]
+fn takes_all_rows_of_a_long_feed(rt: HostRuntime) -> Result<(), Fail> {
+    let mut left = long_feed(rt.alloc(), 131_071, 5)?;
+    let mut right = feed_of(rt.alloc(), &[("b", 5)])?;
+    let mut join = FeedJoin::new(rt.alloc());
+    assert_none(&rt, &mut join, &mut left, &mut right, None);
+    assert_eq!(rt; (left.draws(), right.draws()), (131_073, 2));
+    Ok(())
+}
+
+// One that has a row more is too long, even where the score of that row rises.
+#[test]
+fn refuses_a_row_too_many(rt: HostRuntime) -> Result<(), Fail> {
+    let mut left = long_feed(rt.alloc(), 131_072, 6)?;
+    let mut right = feed_of(rt.alloc(), &[("b", 5)])?;
+    let mut join = FeedJoin::new(rt.alloc());
+    assert_none(
+        &rt,
+        &mut join,
+        &mut left,
+        &mut right,
+        Some(JoinFault::TooLong { side: 1 }),
+    );
+    assert_eq!(rt; (left.draws(), right.draws()), (131_073, 2));
+    assert_none(
+        &rt,
+        &mut join,
+        &mut left,
+        &mut right,
+        Some(JoinFault::Broken),
+    );
+    assert_eq!(rt; (left.draws(), right.draws()), (131_073, 2));
     Ok(())
 }

@@ -41,8 +41,8 @@ pub returns : goal.returns
 returns c =
     on_ok_weaker c.feed_left.result
     (λ is row at.
-        let same = same_at (sym (last-is c.args.lefts.now _ c.index-lefts-lefts.result c.requires.last refl c.index-lefts-lefts.is) ∙ at) in
-        is ∙ ap₂ (λ (r : RankRow) (values : List Value). hash_left (same_texts c.args.lefts.now c.args.rights.now) r values c.args.core.now)
-        (c.left_row-row.ensures c.index-lefts-lefts.result refl ∙ ap (left_row (length c.args.lefts.now)) same)
-        (c.in_ok-values.ensures ∙ ap (λ (r : FeedRow). Text r.join ∷ []) same))
+    let same = same_at (sym (last-is c.args.lefts.now _ c.index-lefts-lefts.result c.requires.last refl c.index-lefts-lefts.is) ∙ at) in
+    is ∙ ap₂ (λ (r : RankRow) (values : List Value). hash_left (same_texts c.args.lefts.now c.args.rights.now) r values c.args.core.now)
+    (c.left_row-row.ensures c.index-lefts-lefts.result refl ∙ ap (left_row (length c.args.lefts.now)) same)
+    (c.in_ok-values.ensures ∙ ap (λ (r : FeedRow). Text r.join ∷ []) same))
     c.feed_left.ensures.ok

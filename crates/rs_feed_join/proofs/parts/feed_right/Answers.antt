@@ -41,8 +41,8 @@ pub returns : goal.returns
 returns c =
     on_ok_weaker c.feed_right.result
     (λ is row at.
-        let same = same_at (sym (last-is c.args.rights.now _ c.index-rights-rights.result c.requires.last refl c.index-rights-rights.is) ∙ at) in
-        is ∙ ap₂ (λ (r : RankRow) (values : List Value). hash_right (same_texts c.args.lefts.now c.args.rights.now) r values c.args.core.now)
-        (c.right_row-row.ensures c.index-rights-rights.result refl ∙ ap (right_row (length c.args.rights.now)) same)
-        (c.in_ok-values.ensures ∙ ap (λ (r : FeedRow). Text r.join ∷ []) same))
+    let same = same_at (sym (last-is c.args.rights.now _ c.index-rights-rights.result c.requires.last refl c.index-rights-rights.is) ∙ at) in
+    is ∙ ap₂ (λ (r : RankRow) (values : List Value). hash_right (same_texts c.args.lefts.now c.args.rights.now) r values c.args.core.now)
+    (c.right_row-row.ensures c.index-rights-rights.result refl ∙ ap (right_row (length c.args.rights.now)) same)
+    (c.in_ok-values.ensures ∙ ap (λ (r : FeedRow). Text r.join ∷ []) same))
     c.feed_right.ensures.ok

@@ -38,7 +38,7 @@ returns-in_err-draw-clause-drawn g c = rw (given-err c.from_residual.result c.in
 pub returns-in_err-draw-clause-counts : goal.returns-in_err-draw-clause-counts
 returns-in_err-draw-clause-counts g c =
     let fault = c.in_err-draw.field-0.0 in
-    counts-from _ _ c.in_err-draw.ensures.counts
+    counts-from {F = failed_with Bool fault ≡ failed_with Bool (Failed 2)} _ _ c.in_err-draw.ensures.counts
     (λ e. ap (failed_with Bool) (err-same fault (Failed 2) (sym (given-err c.from_residual.result fault c.from_residual.ensures) ∙ e)))
 
 -- there is none
