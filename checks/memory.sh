@@ -7,12 +7,13 @@
 # tested on takes none either.
 # A join by a hash and a union are executed by the program cases_plans, whichever plan `run` would choose. That program
 # tells its input line by line, and names the line at which there is no memory, if it had begun with one.
-# A test of the program test_units_tests puts rows into a table, which has to stay as it was where one can't join.
+# A test of the program test_units_tests puts rows into a table, which has to stay as it was where one can't join. One of
+# test_feeds_tests joins two feeds: it has to give a front of the pairs, and draw no row that the next one doesn't take.
 # The program ranksql_ask runs a script whose scores it is told by a file. What it was told it has to keep, whole line by line.
 # Scripts may be named: checks/memory.sh NAME.., and with none all are run.
-# The programs are ranksql, cases_plans, ranksql_ask and test_units_tests, each as crates/CRATE/out/PROGRAM, or those that the
-# variables RANKSQL, PLAN_CASES, RANKSQL_ASK and TABLE_TESTS name. A C compiler is needed: the allocations fail by a small library in
-# front of the system's.
+# The programs are ranksql, cases_plans, ranksql_ask, test_units_tests and test_feeds_tests, each as crates/CRATE/out/PROGRAM, or
+# those that the variables RANKSQL, PLAN_CASES, RANKSQL_ASK, TABLE_TESTS and FEED_TESTS name. A C compiler is needed: the allocations
+# fail by a small library in front of the system's.
 set -u -o pipefail
 export LC_ALL=C
 
@@ -21,6 +22,7 @@ program=${RANKSQL:-$root/crates/ranksql/out/ranksql}
 cases=${PLAN_CASES:-$root/crates/cases_plans/out/cases_plans}
 ask=${RANKSQL_ASK:-$root/crates/ranksql_ask/out/ranksql_ask}
 tests=${TABLE_TESTS:-$root/crates/test_units/out/test_units_tests}
+feeds=${FEED_TESTS:-$root/crates/test_feeds/out/test_feeds_tests}
 if [ ! -x "$program" ]; then
     echo "there is no program $program: ./ranksql builds it" >&2
     exit 1
@@ -316,40 +318,41 @@ try_each() {
         "the others told the want of memory, $cut of them behind a row"
 }
 
-# Runs the test with each allocation refused. Those that make the table come first, and the test lacks memory then; whichever of
-# the others is refused, it passes.
-# try_growth [all]
-try_growth() {
-    local all=${1:-} number=0 total status lacked=0 passed=0
-    "${grow[@]}" REFUSE_FIRST=0 "$tests" "$growth" >out 2>err || {
-        echo "FAILED  $growth with all its memory"
+# Runs a test of a program with each allocation refused. Those that make what it begins with come first, and the test lacks memory
+# then; whichever of the others is refused, it passes, and there are at least so many of them.
+# try_test PROGRAM TEST LEAST [all]
+try_test() {
+    local program=$1 test=$2 least=$3 all=${4:-} number=0 total status lacked=0 passed=0
+    "${refuse[@]}" REFUSE_FIRST=0 "$program" "$test" >out 2>err || {
+        echo "FAILED  $test with all its memory"
         failures=$((failures + 1))
         return
     }
     total=$(cat count)
     while [ "$number" -lt "$total" ]; do
         number=$((number + 1))
-        "${grow[@]}" REFUSE_FIRST="$number" ${all:+REFUSE_ALL=1} "$tests" "$growth" >out 2>err
+        "${refuse[@]}" REFUSE_FIRST="$number" ${all:+REFUSE_ALL=1} "$program" "$test" >out 2>err
         status=$?
         if [ "$status" -eq 0 ]; then
             passed=$((passed + 1))
         elif [ "$passed" -eq 0 ] && grep -qE '^error: (Memory|AllocFailed)' err; then
             lacked=$((lacked + 1))
         else
-            echo "FAILED  $growth, allocation $number of $total${all:+ and all later ones}: status $status"
+            echo "FAILED  $test, allocation $number of $total${all:+ and all later ones}: status $status"
             head -c 300 err | sed 's/^/        /'
             failures=$((failures + 1))
         fi
     done
-    if [ "$passed" -lt 100 ]; then
-        echo "FAILED  $growth: only $passed allocations are of rows that join"
+    if [ "$passed" -lt "$least" ]; then
+        echo "FAILED  $test: only $passed allocations are of what it tries"
         failures=$((failures + 1))
     fi
-    echo "growth: each of $total allocations${all:+ and all later ones} refused: $lacked made no table, behind the others it was as before"
+    echo "$test: each of $total allocations${all:+ and all later ones} refused: $lacked left it nothing to begin with, behind the others it passed"
 }
 
 growth=columns::keeps_the_rows_where_memory_ends
-grow=(timeout 60 env LD_PRELOAD="$work/refuse.so" REFUSE_COUNT="$work/count")
+join=memory::gives_a_front_where_memory_ends
+refuse=(timeout 60 env LD_PRELOAD="$work/refuse.so" REFUSE_COUNT="$work/count")
 
 awk 'BEGIN {
     print "title,rating,year"
@@ -454,10 +457,16 @@ for name in "${names[@]}"; do
 done
 if [ $# -eq 0 ]; then
     if [ -x "$tests" ]; then
-        try_growth
-        try_growth all
+        try_test "$tests" "$growth" 100
+        try_test "$tests" "$growth" 100 all
     else
         echo "there is no program $tests: rows that join a table are left out"
+    fi
+    if [ -x "$feeds" ]; then
+        try_test "$feeds" "$join" 20
+        try_test "$feeds" "$join" 20 all
+    else
+        echo "there is no program $feeds: the join of two feeds is left out"
     fi
 fi
 if [ "$failures" -gt 0 ]; then

@@ -1,0 +1,14 @@
+pub mod RowFacts
+pub mod RankedFacts
+pub mod PairFacts
+pub mod HashFacts
+pub mod StandFacts
+pub mod AnswerFacts
+pub mod KeptFacts
+pub mod TurnFacts
+pub mod CallFacts
+pub mod FeedingFacts
+pub mod DrawFacts
+pub mod GiveFacts
+pub mod NextFacts
+pub mod MeasureFacts

@@ -1,0 +1,12 @@
+//! Tests of the join of two feeds. They ask what no clause says: that calls succeed with ample memory, and that the definitions mean
+//! what was meant.
+#![tactic(auto)]
+
+#[cfg(test)]
+mod cases;
+#[cfg(test)]
+mod joins;
+#[cfg(test)]
+mod memory;
+#[cfg(test)]
+mod random;
