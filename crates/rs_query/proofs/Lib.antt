@@ -2,6 +2,7 @@ pub mod AddsFacts
 pub mod ArgFacts
 pub mod AskFacts
 pub mod BlockFacts
+pub mod BoundedFacts
 pub mod CellFacts
 pub mod ChoiceFacts
 pub mod EntryFacts
@@ -30,6 +31,7 @@ pub mod StepsFacts
 pub mod ThroughFacts
 pub mod TieFacts
 pub mod ToldFacts
+pub mod TopFacts
 pub mod WalkFacts
 pub mod WeightFacts
 pub mod WithinFacts
