@@ -37,3 +37,4 @@ pub mod WeightFacts
 pub mod WithinFacts
 pub mod WorkedCombinations
 pub mod WorkedGrowth
+pub mod WorkedTops

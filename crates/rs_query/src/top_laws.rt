@@ -16,6 +16,8 @@ ghost use Rattle.rs_query.specs.WellFormed.{IsQuery};
 ghost use Rattle.rs_query.specs.declared.query.Query.{Query as BoundQuery};
 ghost use Rattle.rs_query.specs.declared.term.Term.{Term as BoundTerm};
 
+use rs_catalog::rankings_are_in_order;
+
 /// Where the rank indexes hold the scorer's answers, a query that gets its tops stays well formed and has them, and no term of a query
 /// with its tops is worth more than its maximum: for no rows of its entries' tables, so for no combination of a view. That stays so
 /// as the catalogue was before, and of each of its snapshots.
@@ -23,4 +25,14 @@ pub fn worths_are_within_tops()
     ensures tops { (catalogue : CatalogDef) (query : BoundQuery) → IsQuery catalogue query → HasTops catalogue (with_tops catalogue query) }
     ensures worths { (answer : Answering) (catalogue : CatalogDef) (query : BoundQuery) → IndexesHold answer catalogue
         → HasTops catalogue query → IsBounded answer catalogue query }
-{}
+    ensures formed { (answer : Answering) (catalogue : CatalogDef) (query : BoundQuery) → IndexesHold answer catalogue
+        → IsQuery catalogue query → IsQuery catalogue (with_tops catalogue query) }
+    ensures views { (answer : Answering) (catalogue : CatalogDef) (query : BoundQuery) (number : ℕ) (sizes : List ℕ) (mask : ℕ) (rows : List ℕ) (term : BoundTerm)
+        → IsBounded answer catalogue query → IsSizes catalogue (block_in query number) sizes
+        → In rows (combinations catalogue (block_in query number) sizes mask) → In term (block_in query number).terms
+        → is_inside term.entries mask ≡ true → worth_of answer catalogue (block_in query number) rows term ≤ term.max }
+    ensures before { (answer : Answering) (old new : CatalogDef) (query : BoundQuery) → CatalogueGrows old new
+        → IsQuery old query → IsBounded answer new query → IsBounded answer old query }
+{
+    rankings_are_in_order();
+}
