@@ -18,7 +18,7 @@ use Rattle.rs_typing.specs.declared.fault.BindFault.TheVariants.{At, Memory}
 use Rattle.rs_typing.specs.declared.fault.Why.TheVariants.{SetColumnsDiffer}
 use Rattle.rs_bind.specs.Conditions.{filter_of}
 use Rattle.rs_bind.specs.Narrow.{HasNarrowConjuncts, HaveNarrowConjuncts}
-use Rattle.rs_bind.specs.Queries.{Unranked, agree, are_outputs, block_columns, bound_query, first_item, bound_limit, output_names, needed_by, one_of, output_columns, set_of, terms_of, unranked_of, with_terms}
+use Rattle.rs_bind.specs.Queries.{Unranked, agree, are_outputs, block_columns, typed_query, first_item, bound_limit, output_names, needed_by, one_of, output_columns, set_of, terms_of, unranked_of, with_terms}
 use Rattle.rs_bind.specs.Sources.{Found, entries_of, items_of, sources_of}
 use Rattle.rs_syntax.specs.Written.{IsWrittenBlock, IsWrittenQuery, IsWrittenTerm}
 use Rattle.rs_typing.proofs.EachFacts.{each-all, each-map, each-then}
@@ -221,7 +221,7 @@ set_of-sides catalogue query second left right terms others some_left some_right
 
 -- the query that a SELECT is is well formed
 pub formed : (catalogue : CatalogDef) (query : syntax.Query) (bound : Query) → IsWrittenQuery query → HaveNarrowConjuncts bound
-    → bound_query catalogue query ≡ Ok bound → IsQuery catalogue bound
+    → typed_query catalogue query ≡ Ok bound → IsQuery catalogue bound
 formed catalogue query bound written narrow h = go query.right refl where
   go : (right : Option (SetOp × syntax.Block)) → query.right ≡ right → IsQuery catalogue bound
   go None e =
@@ -242,7 +242,7 @@ formed catalogue query bound written narrow h = go query.right refl where
 
 -- the same of what was made
 pub IfOk-formed : (catalogue : CatalogDef) (query : syntax.Query) (result : Result Query BindFault) → IsWrittenQuery query
-    → IfOk result (λ bound. HaveNarrowConjuncts bound) → Gives Memory (bound_query catalogue query) result → IfOk result (λ bound. IsQuery catalogue bound)
+    → IfOk result (λ bound. HaveNarrowConjuncts bound) → Gives Memory (typed_query catalogue query) result → IfOk result (λ bound. IsQuery catalogue bound)
 IfOk-formed catalogue query (Ok bound) written narrow (inl h) = formed catalogue query bound written narrow (sym h)
 IfOk-formed catalogue query (Ok bound) written narrow (inr h) = cc
 IfOk-formed catalogue query (Err fault) written narrow h = tt
