@@ -29,6 +29,18 @@ CREATE RANK INDEX by_v ON t (cheap(v));
 SELECT n, name FROM t ORDER BY 2 * cheap(v) + near(n, name) LIMIT 5;
 """
 
+# An index that is asked for, and rows that join it. The last one has the arguments of a row of the file.
+GROWING = """CREATE TABLE t (n INT, name TEXT, v INT) FROM 't.csv';
+CREATE PREDICATE cheap (v INT) MAX 100 AS v;
+CREATE PREDICATE near (n INT, name TEXT) MAX 60 COST 1000 AS {formula};
+{index}
+DECLARE k CURSOR FOR SELECT n, name FROM t ORDER BY cheap(v) + near(n, name);
+FETCH 3 FROM k;
+INSERT INTO t VALUES (23, 'a "new" one', 99), (61, 'it''s, new', 7), (23, 'row 23', 98);
+FETCH 3 FROM k;
+SELECT n, name FROM t ORDER BY 2 * cheap(v) + near(n, name) LIMIT 5;
+"""
+
 TRUE = "MAX(0, 60 - ABS(n - 23))"
 GUESSES = {"the truth": TRUE, "nothing": "0", "the most": "60", "the opposite": "MIN(60, ABS(n - 23))", "too much": "1000 - n"}
 
@@ -92,17 +104,17 @@ def with_true(record):
     return f"{true_score(int(record[1]))}\n".encode()
 
 
-def fresh(folder, formula):
+def fresh(folder, formula, script=SCRIPT, index=""):
     (folder / "scores.csv").unlink(missing_ok=True)
-    (folder / "s.sql").write_text(SCRIPT.format(formula=formula))
+    (folder / "s.sql").write_text(script.format(formula=formula, index=index))
     with open(folder / "t.csv", "w", newline="", encoding="utf-8") as table:
         writer = csv.writer(table, lineterminator="\n")
         writer.writerow(["n", "name", "v"])
         writer.writerows(ROWS)
 
 
-def wanted_rows(folder):
-    fresh(folder, TRUE)
+def wanted_rows(folder, *script):
+    fresh(folder, TRUE, *script)
     done = subprocess.run([PLAIN, "plain", "s.sql"], cwd=folder, capture_output=True, check=True, timeout=60)
     return done.stdout.decode()
 
@@ -116,6 +128,29 @@ def try_guesses(folder, wanted):
             check("        no question is asked twice", len(set(questions)) == len(questions))
             check("        each question is kept", len(questions) == len((folder / "scores.csv").read_text().splitlines()))
             check("        the counts", f"questions={len(questions)} known=0\n" in err, err)
+
+
+def try_growing(folder):
+    """Rows that join a table. At an index that is asked for each new row is a question, index rows first, in the order of the rows."""
+    new = [("near", "23", 'a "new" one'), ("near", "61", "it's, new")]
+    rows = [("near", str(n), name) for n, name, _ in ROWS]
+    for index, of in (("CREATE RANK INDEX by_near ON t (near(n, name));", "near"), ("CREATE RANK INDEX by_v ON t (cheap(v));", "cheap"), ("", "none")):
+        wanted = wanted_rows(folder, GROWING, index)
+        for name, formula in GUESSES.items():
+            for words in (["plain", "s.sql"], ["run", "s.sql", "1"], ["run", "s.sql", "7"]):
+                fresh(folder, formula, GROWING, index)
+                status, out, err, questions = run(folder, words, with_true)
+                check(f"rows that join, an index of {of}, the guess is {name}: {' '.join(words)}", (status, out) == (0, wanted), (status, out, err))
+                check("        no question is asked twice", len(set(questions)) == len(questions))
+                if of == "near" or words[0] == "plain":
+                    check("        the questions", questions == rows + new, questions)
+        fresh(folder, "0", GROWING, index)
+        first = run(folder, ["run", "s.sql", "1"], with_true)
+        again = run(folder, ["run", "s.sql", "1"], with_true)
+        check("        a second start asks for nothing", first[:2] == again[:2] and again[3] == [], again)
+    fresh(folder, "0", GROWING, "CREATE RANK INDEX by_near ON t (near(n, name));")
+    got = run(folder, ["run", "s.sql", "1"], lambda record: b"61\n" if record[1] == "61" else with_true(record))
+    check("a bad score of a row that joins", got[0] == 7 and got[2].startswith("score: near rows 62: 61 is not in 0..60\n"), got)
 
 
 def try_missing(folder, wanted):
@@ -268,6 +303,7 @@ def main():
         wanted = wanted_rows(folder)
         try_guesses(folder, wanted)
         try_missing(folder, wanted)
+        try_growing(folder)
         try_answers(folder, wanted)
         try_crashes(folder, wanted)
         try_files(folder)

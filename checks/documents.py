@@ -41,7 +41,7 @@ LEFT_OUT = (
 FORM = re.compile(r"(?<![\w'\"$-])(FILE|COLUMN|MAX|K|SCRIPT|SEED|NUMBER|ROWS|PREFIX|OLD|NEW|NAME|N|WORD)(?![\w'\"=])")
 COMMAND = re.compile(r"(\./)?(ranksql|install|tools/\S+|examples/\S+\.sh|checks/\S+|bench/\S+|\.ci/run|python3|zcat|cat|head|tail|cd|rt|man|git|N=\d+;|cases=)(?= |$|\S*$)")
 INLINE = re.compile(r"((\./)?ranksql )?(top|plain|run|gen) \S+|tools/(why|prepare|advise) \S+")
-STATEMENT = re.compile(r"(CREATE (TABLE|PREDICATE|RANK INDEX)|SELECT|EXPLAIN|DECLARE|FETCH|CLOSE) ")
+STATEMENT = re.compile(r"(CREATE (TABLE|PREDICATE|RANK INDEX)|INSERT INTO|SELECT|EXPLAIN|DECLARE|FETCH|CLOSE) ")
 PRINTED = re.compile(r"\d+,-?\d+,|\d+,-?\d+$|\s*(SeqScan|RankScan|Rank|HashRankJoin|NestedRankJoin|Distinct|Union|UnionAll|Intersect|Except) .*est=")
 FAULT = re.compile(r"(script|session|table|score|read|usage): ")
 

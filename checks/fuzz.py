@@ -2,9 +2,9 @@
 which calls this: checks/fuzz.sh N SEED tries N cases, which are the same at each run with that seed.
 
 A case has small tables, and a script of the grammar, of which every second one has a few words exchanged, left out or doubled.
-It is run by plans and plainly. Where the program runs the whole script, or ends it by a score, a cursor or a missing file,
+Rows join the tables, and indexes are made, between the FETCHes of its cursors too. It is run by plans and plainly. Where the program runs the whole script, or ends it by a score, a cursor or a missing file,
 status, rows and line have to be those of runs.py. Where it refuses a statement or a table, the rows of the statements in front
-have to be. A run may never crash, and its line has to be one of its status.
+have to be, and of an INSERT the line too. A run may never crash, and its line has to be one of its status.
 """
 
 import multiprocessing
@@ -54,9 +54,10 @@ class Case:
         self.most = self.draw.choice([3, 9, 10, 12])
         self.files = {f"{name}.csv": self.table(columns) for name, columns in TABLES.items()}
         tables = [f"CREATE TABLE {name} ({', '.join(columns)}) FROM '{name}.csv';" for name, columns in TABLES.items()]
-        front = tables + [text for _, text in PREDICATES.values()] + [self.index(number) for number in range(self.draw.randrange(4))]
-        self.cursors = []
-        script = front + [self.statement() for _ in range(self.draw.randrange(1, 5))]
+        self.indexes, self.favourite = 0, self.draw.choice(list(TABLES))
+        front = tables + [text for _, text in PREDICATES.values()] + [self.index() for _ in range(self.draw.randrange(4))]
+        self.open = []
+        script = front + [self.statement() for _ in range(self.draw.randrange(1, 12))]
         if number % 2:
             for _ in range(self.draw.randrange(1, 4)):
                 script = self.changed(script, len(tables))
@@ -85,9 +86,30 @@ class Case:
         args = [self.column(entries) if self.draw.random() < 0.85 else str(self.draw.randrange(9)) for _ in range(count)]
         return f"{name}({self.column(entries) if count == 1 else ', '.join(args)})"
 
-    def index(self, number):
-        table = self.draw.choice(list(TABLES))
-        return f"CREATE RANK INDEX i{number} ON {table} ({self.call([(table, table)])});"
+    def grown(self):
+        """The table of an index or an INSERT: one of them often, so that it has several indexes as rows join it."""
+        return self.draw.choice(list(TABLES) + [self.favourite] * 4)
+
+    def index(self):
+        table = self.grown()
+        self.indexes += 1
+        return f"CREATE RANK INDEX i{self.indexes} ON {table} ({self.call([(table, table)])});"
+
+    def insert(self):
+        table = self.grown()
+        most = self.most if self.draw.random() < 0.8 else 14  # where many scores are bad, the order of the calls shows
+        return f"INSERT INTO {table} VALUES {', '.join(self.row(TABLES[table], most) for _ in range(self.draw.choice([1, 1, 2, 3])))};"
+
+    def row(self, columns, most):
+        """A row of an INSERT. One of a hundred has a value too many, and one value of a hundred is of another kind."""
+        kinds = [column.split()[1] for column in columns] + ["INT"] * (self.draw.random() < 0.01)
+        return f"({', '.join(self.written(kind if self.draw.random() < 0.99 else 'TEXT', most) for kind in kinds)})"
+
+    def written(self, kind, most):
+        if kind == "TEXT":
+            return self.draw.choice(["'a'", "'b'", "'c,d'", "'e\"f'", "''", "'\u00e9'", "'it''s'", "'x; y'"])
+        number = self.draw.randrange(most + 1)
+        return self.draw.choice([str(number)] * 20 + [f"-{number}", f"- {number}", f"00{number}", "4000000000000000000"])
 
     def condition(self, entries):
         if self.draw.random() < 0.5:
@@ -118,16 +140,27 @@ class Case:
         return f"{self.block(entries, ', '.join(items))} ORDER BY {order}{limit}"
 
     def statement(self):
+        """A statement behind the front. Most cursors are open where rows are fetched, and most names free where one is opened."""
         kind = self.draw.random()
-        if kind < 0.45:
+        if kind < 0.2:
             return self.query() + ";"
-        if kind < 0.55:
+        if kind < 0.28:
             return f"EXPLAIN {self.query()};"
-        if kind < 0.65:
+        if kind < 0.36:
             return f"EXPLAIN ANALYZE {self.query()};"
-        name = self.draw.choice(["k", "l"])
-        fetches = " ".join(f"FETCH {self.draw.choice([0, 1, 2, 9])} FROM {name};" for _ in range(self.draw.randrange(4)))
-        return f"DECLARE {name} CURSOR FOR {self.query()}; {fetches}" + self.draw.choice(["", f" CLOSE {name};"])
+        if kind < 0.56:
+            return self.insert()
+        if kind < 0.6:
+            return self.index()
+        if self.open and kind < 0.8 or kind < 0.61:
+            return f"FETCH {self.draw.choice([0, 1, 1, 2, 9])} FROM {self.draw.choice(self.open or ['k'])};"
+        if self.open and kind < 0.84 or kind < 0.62:
+            closed = self.draw.choice(self.open or ["k"])
+            self.open = [name for name in self.open if name != closed]
+            return f"CLOSE {closed};"
+        name = self.draw.choice([name for name in "klm" if name not in self.open or kind > 0.99] or ["k"])
+        self.open.append(name)
+        return f"DECLARE {name} CURSOR FOR {self.query()};"
 
     def changed(self, script, kept):
         """The script with a word exchanged, left out or doubled behind its tables, or with a statement moved or left out."""
@@ -164,10 +197,10 @@ class Wanted:
 
     def __init__(self, case, seed):
         self.run = runs.Run(case.files, {}, {}, seed)
-        self.starts = [place for place, _ in runs.statements(case.script)]
+        self.statements = list(runs.statements(case.script))
         self.ends = []  # what was put up to the end of each statement that was run
         self.end, self.unread = None, False
-        for place, part in runs.statements(case.script):
+        for place, part in self.statements:
             try:
                 words = Words(part)
                 self.run.statement(words, place)
@@ -213,10 +246,13 @@ def check_refused(got, wanted):
     kind, place = error.split()[1], int(error.split()[-1])
     if kind in ("lex", "parse"):
         return ("" if out == "" else f"a refused script puts: {got}"), False
-    front = sum(start <= place for start in wanted.starts) - 1
+    front = sum(start <= place for start, _ in wanted.statements) - 1
     if len(wanted.ends) < front:
         return ("" if wanted.unread else f"got {got}, where runs.py says {wanted.end} before"), False
     put = wanted.ends[front - 1] if front > 0 else ""
+    is_read = len(wanted.ends) > front or wanted.end
+    if is_read and wanted.statements[front][1].startswith("INSERT") and wanted.end != ("Script", error.strip()):
+        return f"got {got}, where runs.py says {wanted.end}", False
     return ("" if out == put else f"got {got}, where the statements in front put {put!r}"), True
 
 

@@ -192,6 +192,17 @@ SQL
 printf '1,17,8\n2,13,10\n1,10,2\n3,12,2\n4,6,5\n' >cursors.wanted
 cp cursors.sql ready.sql
 cp cursors.wanted ready.wanted
+# Rows that join a table with two indexes, and one with texts, while a cursor is open.
+cat base - >grows.sql <<'SQL'
+CREATE PREDICATE named (s TEXT) MAX 1 AS CASE WHEN s >= 'c' THEN 1 ELSE 0 END;
+CREATE RANK INDEX qy ON t (q(y)); CREATE RANK INDEX hn ON h (named(name));
+DECLARE k CURSOR FOR SELECT x, y FROM t ORDER BY p(x) + q(y); FETCH 1 FROM k;
+INSERT INTO t VALUES (9, 10), (1, 1), (10, 0); INSERT INTO h VALUES ('d', 70, 2), ('a', -1, 3);
+FETCH 2 FROM k; SELECT x, y FROM t ORDER BY p(x) + q(y) LIMIT 3; SELECT name, city FROM h ORDER BY named(name) LIMIT 3;
+SQL
+printf '1,17,8,9\n2,13,10,3\n3,12,2,10\n1,19,9,10\n2,17,8,9\n3,13,10,3\n1,1,c,2\n2,1,d,2\n3,0,a,1\n' >grows.wanted
+cp grows.sql grown.sql
+cp grows.wanted grown.wanted
 cat >front <<'LINES'
 front CREATE TABLE h (name TEXT, price INT, city INT) FROM 'name,price,city\na,40,1\nb,90,1\nc,40,2\n'; CREATE PREDICATE near (a INT, b INT) MAX 100 AS 100 - ABS(a - b);
 LINES
@@ -238,7 +249,7 @@ printf 'memory\n' >memory
 run() {
     local words=("$program" plain "$1.sql") input=/dev/null
     case $1 in
-        plan | first | tables | forms | nested | cursors | rows | index | calls) words=("$program" run "$1.sql" 1) ;;
+        plan | first | tables | forms | nested | cursors | grows | rows | index | calls) words=("$program" run "$1.sql" 1) ;;
         hashed | united) words=("$cases") input=$1.sql ;;
         asked) words=("$ask" q scores /dev/null answers run asked.sql 1) ;;
     esac
@@ -422,7 +433,7 @@ compare calls '' 'level(rating)' 10 'level(rating) + recent(year)' 10
 compare_conditions tested_plainly plain
 compare_conditions tested_by_plans run 1
 
-names=(join union ready plan first tables forms nested cursors)
+names=(join union ready grown plan first tables forms nested cursors grows)
 if [ $# -gt 0 ]; then
     names=("$@")
 elif [ -x "$cases" ]; then

@@ -59,15 +59,22 @@ TOKEN = re.compile(r"\s*('(?:[^']|'')*'|\w+|<=|>=|<>|[-+*/(),.;=<>])")
 
 
 class Words:
+    """The words of a statement, and how many bytes of it stand in front of each."""
+
     def __init__(self, text):
-        self.words, at, text = [], 0, text.rstrip()
+        self.words, self.places, at, text = [], [], 0, text.rstrip()
         while at < len(text):
             found = TOKEN.match(text, at)
             if not found:
                 raise Unread
             self.words.append(found.group(1))
+            self.places.append(len(text[: found.start(1)].encode(errors="surrogateescape")))
             at = found.end()
         self.at = 0
+
+    def place(self):
+        """The place of the word that comes."""
+        return self.places[self.at] if self.at < len(self.places) else None
 
     def next(self):
         return self.words[self.at] if self.at < len(self.words) else None
@@ -271,7 +278,9 @@ class Block:
         self.parts = conjuncts(either(words)) if words.skip("WHERE") else []
         if any(table not in run.tables for table, _ in self.names):
             raise Unread
+        # What joins later changes nothing: rows make a new table, and the indexes are those of now.
         self.tables = [run.tables[table] for table, _ in self.names]
+        self.indexes = list(run.indexes)
         self.items = [self.found(*item[1:]) for item in items]
         self.conjuncts = [(part, frozenset(self.found(*c)[0] for c in columns_in(part))) for part in self.parts]
         self.all = frozenset(range(len(self.tables)))
@@ -292,7 +301,7 @@ class Block:
 
     def place(self, argument, output):
         if argument[0] != "column":
-            return ("value", argument[1])
+            return ("value", value(argument, None))
         return self.found(*argument[1:]) if output is None else self.items[output]
 
     def output_named(self, alias, name):
@@ -444,7 +453,7 @@ class Block:
                 (term,) = terms
                 _, predicate, args, own = self.terms[term]
                 key = (self.names[entry][0], predicate, tuple(a if a[0] == "value" else a[1] for a in args))
-                if own == entries and key in self.run.indexes:
+                if own == entries and key in self.indexes:
                     found.append(IndexScan(self, entry, term))
         for term in terms:
             child = self.best(entries, terms - {term}) if self.terms[term][3] <= entries else None

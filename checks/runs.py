@@ -3,7 +3,7 @@
 
 Queries, their plans and their calls are those of queries.py. The cases that it can't read stay as they are: those in which a
 name, a type or a file of a script is refused, and words of no form. Of refused scripts it reads those that pass a limit or
-aren't UTF-8. This makes the cases anew, at the top of the repository:
+aren't UTF-8, and those whose INSERT is refused. This makes the cases anew, at the top of the repository:
 
     cases=crates/cases_runs
     python3 checks/runs.py <$cases/stdout >cases.new && mv cases.new $cases/stdout && grep -v '^  ' $cases/stdout >$cases/stdin
@@ -98,7 +98,7 @@ class Run:
     def __init__(self, files, scores, fails, seed, guesses=False):
         self.files, self.scores, self.fails, self.seed, self.guesses = files, scores, fails, seed, guesses
         self.sampled, self.indexed, self.first = 0, 0, None
-        self.tables, self.predicates, self.indexes, self.index_names, self.cursors = {}, {}, set(), set(), {}
+        self.tables, self.predicates, self.indexes, self.index_names, self.cursors = {}, {}, [], set(), {}
         self.made, self.put, self.fetched, self.puts = [], "", [], 0
 
     def answer(self, predicate, args):
@@ -199,6 +199,8 @@ class Run:
             self.create_predicate(words, place)
         elif words.skip("CREATE", "RANK", "INDEX"):
             self.create_index(words)
+        elif words.skip("INSERT", "INTO"):
+            self.insert(words, place)
         elif words.skip("EXPLAIN"):
             analyzes = words.skip("ANALYZE")
             query = read_query(words, self)
@@ -284,19 +286,46 @@ class Run:
         words.want("(")
         args = listed(words, total)
         words.want(")", ")")
-        if name not in self.tables or predicate not in self.predicates or any(a[0] != "column" for a in args):
+        if name not in self.tables or predicate not in self.predicates or any(a[0] == "column" and a[1] not in (None, name) for a in args):
             raise Unread
-        if index in self.index_names:
+        if index in self.index_names or all(a[0] != "column" for a in args) or len(args) != len(self.predicates[predicate].params):
             raise Unread
         self.index_names.add(index)
         table = self.tables[name]
-        places = [[c for c, _ in table.columns].index(a[2]) for a in args]
-        for number, row in enumerate(table.rows, 1):
-            got = self.score((predicate, tuple(row[place] for place in places)))
-            if not 0 <= got <= self.predicates[predicate].most:
-                self.bad(predicate, [number], got)
-        self.indexed += len(table.rows)
-        self.indexes.add((name, predicate, tuple(places)))
+        columns = [c for c, _ in table.columns]
+        places = tuple(columns.index(a[2]) if a[0] == "column" else ("value", value(a, None)) for a in args)
+        self.score_rows(predicate, places, 1, table.rows)
+        self.indexes.append((name, predicate, places))
+
+    def score_rows(self, predicate, places, first, rows):
+        """The calls of an index for rows, of which the first one has this number."""
+        begun = len(self.made)
+        for number, row in enumerate(rows, first):
+            self.check((predicate, tuple(p[1] if isinstance(p, tuple) else row[p] for p in places)), [number], self.predicates[predicate].most)
+        self.indexed += len(self.made) - begun
+
+    def insert(self, words, place):
+        name_place, name = words.place(), words.take()
+        words.want("VALUES")
+        rows = listed(words, read_row)
+        if words.next() is not None:
+            raise Unread
+        if name not in self.tables:
+            refuse("NoTable", place + name_place)
+        table = self.tables[name]
+        for number, (row_place, cells) in enumerate(rows, len(table.rows) + 1):
+            if number > MOST_ROWS:
+                refuse("LimitOf", place + row_place)
+            if len(cells) != len(table.columns):
+                refuse("WrongCount", place + row_place)
+            for (cell_place, cell), (_, kind) in zip(cells, table.columns):
+                if isinstance(cell, int) != kind.startswith("INT"):
+                    refuse("WrongKind", place + cell_place)
+        new = [[cell for _, cell in cells] for _, cells in rows]
+        for of, predicate, places in self.indexes:
+            if of == name:
+                self.score_rows(predicate, places, len(table.rows) + 1, new)
+        self.tables[name] = Table(table.columns, table.rows + new)
 
     def script(self, name):
         text = re.sub("--[^\n]*", "", self.fetch(name, MOST_OF_A_SCRIPT).removeprefix("\ufeff"))
@@ -388,8 +417,32 @@ def records(text):
 
 
 def statements(text):
-    """The statements of a script, each with the bytes in front of it."""
-    return [(part.start(), part[0]) for part in re.finditer(r"[^;\s][^;]*", text)]
+    """The statements of a script, each with the number of bytes in front of it."""
+    parts = re.finditer(r"(?:'(?:[^']|'')*'|[^;\s])(?:'(?:[^']|'')*'|[^;])*", text)
+    return [(len(bytes_of(text[: part.start()])), part[0]) for part in parts]
+
+
+def read_row(words):
+    """A row of an INSERT: its place, and each value with its own."""
+    place = words.place()
+    words.want("(")
+    cells = listed(words, read_value)
+    words.want(")")
+    return place, cells
+
+
+def read_value(words):
+    place, negated, word = words.place(), words.skip("-"), words.take()
+    if word.isdigit():
+        return place, -int(word) if negated else int(word)
+    if negated or not word.startswith("'"):
+        raise Unread
+    return place, word[1:-1].replace("''", "'")
+
+
+def refuse(rule, place):
+    """Ends a run at a statement that breaks this rule of names and types."""
+    raise Ended("Script", f"script: bind {rule} at {place}")
 
 
 # ---- the cases
@@ -443,7 +496,7 @@ def main():
                 at += 1
             try:
                 words = rest if word == "run" else f"guess {rest}"
-                new = list(told(written(words).split(" "), files, scores, fails)) if can_be_read(words, old) else old
+                new = list(told(written(words).split(" "), files, scores, fails)) if can_be_read(words, old, files) else old
             except Unread:
                 print(f"unread: {files['s.sql'][len(front):]}", file=sys.stderr)
                 new = old
@@ -454,13 +507,19 @@ def main():
 READ = "NotUtf8|lex NumberTooWide|lex TooManyTokens|parse TooManyStatements|parse TooDeep|catalogue Full"
 
 
-def can_be_read(words, old):
-    """Whether a run of these words can be read, which ended so. Of scripts that are refused, only those that pass a limit can."""
+def can_be_read(words, old, files):
+    """Whether a run of these words can be read, which ended so. Of scripts that are refused, only those can that pass a limit or whose INSERT is."""
     if not re.fullmatch(r"top \S+ \S+ \d+ \d+|plain \S+|(run|guess) \S+ \d+|gen \d+ \d+", words) or "  Usage" in old:
         return False
     if words.startswith("top ") or not set(old) & {"  Script", "  Table"}:
         return True
-    return any(re.match(f"  err script: ({READ}) ", line) for line in old)
+    return any(re.match(f"  err script: ({READ}) ", line) or is_of_insert(line, files[words.split()[1]]) for line in old)
+
+
+def is_of_insert(line, text):
+    """Whether a line tells of an INSERT that breaks a rule of names and types."""
+    told = re.match(r"  err script: bind \w+ at (\d+)", line)
+    return told is not None and [part for start, part in statements(text) if start <= int(told[1])][-1].startswith("INSERT")
 
 
 def told(words, files, scores, fails):

@@ -8,7 +8,7 @@ use Rattle.rs_lex.specs.Spelling.{RefusesBytes, Spells, most_tokens}
 use Rattle.rs_lex.specs.declared.fault.LexFault.{LexFault}
 use Rattle.rs_lex.specs.declared.token.Token.{Token}
 use Rattle.rs_lex.proofs.EachFacts.{script-is_lexed}
-use Rattle.rs_syntax.specs.Syntax.{Ask, Close, Command, CreatePredicate, CreateRankIndex, CreateTable, Declare, Explain, ExplainAnalyze}
+use Rattle.rs_syntax.specs.Syntax.{Ask, Close, Command, CreatePredicate, CreateRankIndex, CreateTable, Declare, Explain, ExplainAnalyze, Insert}
 use Rattle.rs_syntax.specs.Syntax as syntax
 use Rattle.rs_syntax.specs.declared.name.Name.{Name}
 use Rattle.rs_syntax.proofs.EachFacts.{IsParsed, each_is_parsed}
@@ -16,12 +16,14 @@ use Rattle.rs_expr.specs.Scoring.{Answering}
 use Rattle.rs_catalog.specs.Catalog.{CatalogDef}
 use Rattle.rs_catalog.specs.declared.room.What.TheVariants as what
 use Rattle.rs_bind.specs.Indexes.{index_def_of}
+use Rattle.rs_bind.specs.Inserts.{insert_of}
 use Rattle.rs_bind.specs.Names.{columns_of}
 use Rattle.rs_events.specs.Events.{Event, Fetch, Finds, finds_in, found_in}
 use Rattle.rs_events.specs.Run.{behind, fails, fetch_then, with_fault}
 use Rattle.rs_events.specs.Sequence.{RunOf, RunsOn, still}
+use Rattle.rs_statement.specs.Inserts.{insert_step}
 use Rattle.rs_statement.specs.Session.{DoesInSession, State, StatementsRun, beside_cursors, close_outcome, declare_step, fetch_step, nothing}
-use Rattle.rs_statement.specs.Statements.{DoesTable, analyze_step, explain_step, index_step, predicate_outcome, refused_or, select_step, table_step, with_room}
+use Rattle.rs_statement.specs.Statements.{DoesTable, analyze_step, explain_step, index_step, or_bind_fault, predicate_outcome, refused_or, select_step, table_step, with_room}
 use Rattle.rs_statement.specs.Steps.{Run, Step}
 use Rattle.rs_statement.specs.declared.evaluating.Evaluating.{Evaluating}
 use Rattle.rs_statement.specs.declared.evaluating.Evaluating.TheVariants.{Planned}
@@ -67,6 +69,9 @@ module _ (finds : Finds) (has : HasFiles finds) (answer : Answering) (evaluating
   statement state (Ask query) = let own = select_step evaluating answer state.catalogue query in (beside_cursors state.cursors own, (own, refl, refl))
   statement state (Explain query) = let own = explain_step evaluating answer state.catalogue query in (beside_cursors state.cursors own, (own, refl, refl))
   statement state (ExplainAnalyze query) = let own = analyze_step evaluating answer state.catalogue query in (beside_cursors state.cursors own, (own, refl, refl))
+  statement state (Insert name rows) =
+      let own = refused_or (insert_step answer state.catalogue) (or_bind_fault (insert_of state.catalogue (Insert name rows))) in
+      (beside_cursors state.cursors own, (own, refl, refl))
   statement state (Declare name query) = (declare_step evaluating answer state name query, refl)
   statement state (syntax.Fetch count name) = (fetch_step answer state count name, refl)
   statement state (Close name) = (still (close_outcome state name), refl)

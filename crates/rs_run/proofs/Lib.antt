@@ -8,3 +8,4 @@ pub mod OwnRuns
 pub mod OutcomeFacts
 pub mod OneRun
 pub mod SameScripts
+pub mod LaterFacts

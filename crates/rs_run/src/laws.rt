@@ -1,21 +1,34 @@
 //! What the definitions say: laws that hold of all words and files. The functions compute nothing; they are called for
 //! their contracts.
 
-ghost use Rattle.std.specs.Prelude.{◌≡◌, ℕ, List, Option, None, Some};
+ghost use Rattle.std.specs.Prelude.{◌≡◌, ℕ, List, Option, None, Some, Ok};
+ghost use Rattle.rs_value.specs.declared.value.Value.{Value};
 ghost use Rattle.rs_outside.specs.Files.{FilesTold};
 ghost use Rattle.rs_rank.specs.declared.scored_row.ScoredRow.{ScoredRow};
 ghost use Rattle.rs_expr.specs.Predicates.{PredicateDef};
 ghost use Rattle.rs_expr.specs.Scoring.{Answering};
 ghost use Rattle.rs_table.specs.Relation.{Relation};
-ghost use Rattle.rs_catalog.specs.Catalog.{with_index, with_predicate, with_table};
+ghost use Rattle.rs_syntax.specs.Syntax.{Command};
+ghost use Rattle.rs_syntax.specs.Written.{AreWritten};
+ghost use Rattle.rs_catalog.specs.Catalog.{RankIndex, with_index, with_predicate, with_table};
+ghost use Rattle.rs_catalog.specs.Growing.{grown, growing};
+ghost use Rattle.rs_catalog.specs.IndexesHold.{IndexesHold};
+ghost use Rattle.rs_catalog.specs.Snapshot.{sizes_in};
 ghost use Rattle.rs_catalog.specs.declared.index.IndexDef.{IndexDef};
+ghost use Rattle.rs_query.specs.declared.query.Query.{Query};
+ghost use Rattle.rs_plan.specs.Trees.{PlanTree};
+ghost use Rattle.rs_exec.specs.Asking.{world_of};
+ghost use Rattle.rs_exec.specs.Covering.{Covers};
+ghost use Rattle.rs_statement.specs.declared.evaluating.Evaluating.{Evaluating};
 ghost use Rattle.rs_statement.specs.declared.evaluating.Evaluating.TheVariants.{Plainly, Planned};
 ghost use Rattle.rs_statement.specs.declared.sampling.Sampling.{Sampling};
+ghost use Rattle.rs_statement.specs.Planned.{asks_from, next_asks};
+ghost use Rattle.rs_statement.specs.Session.{ByPlan, IsCursorOf, OpenCursor, State, fetched_from, fetched_step};
 ghost use Rattle.rs_statement.specs.Steps.{Run};
 ghost use Rattle.rs_events.specs.Events.{finds_in, found_in, puts};
-ghost use Rattle.rs_run.specs.Running.{HasNoExplain, IsRun, IsRunOf};
-ghost use Rattle.rs_statement.specs.Session.{IsCursorOf, OpenCursor, State, fetched_step};
 ghost use Rattle.rs_run.specs.Faults.{WordsRun};
+ghost use Rattle.rs_run.specs.Later.{LeadsTo};
+ghost use Rattle.rs_run.specs.Running.{HasNoExplain, IsRun, IsRunOf};
 ghost use Rattle.rs_run.specs.Words.{RunScript};
 
 use rs_enum::there_is_one_least_plan;
@@ -39,7 +52,7 @@ pub fn words_have_a_run()
 
 /// A script without EXPLAIN that ends without a fault under `plain` and under `run`, whatever the seed, puts the same rows in the same
 /// order under both, over the same files and the same answers of a scorer: those of its queries, and those of its cursors, among CREATE
-/// statements and queries as they may stand. So it does where plans are chosen by guesses.
+/// statements, INSERTs and queries as they may stand. So it does where plans are chosen by guesses.
 pub fn plain_and_run_agree()
     ensures files { (there : List ℕ → Option (List ℕ)) (answer : Answering) (name : List ℕ) (sampling : Sampling) (run other : Run)
         → HasNoExplain (found_in there) name
@@ -55,8 +68,9 @@ pub fn plain_and_run_agree()
     there_is_one_least_plan();
 }
 
-/// The rows of a cursor depend on the catalogue of its DECLARE and on its own query alone: what joins the catalogue later changes no
-/// event of a FETCH.
+/// The rows of a cursor depend on the catalogue of its DECLARE and on its own query alone. What joins the catalogue later, a table, a
+/// predicate, an index or rows, changes no event of a FETCH, nor does any number of statements that end without a fault. So behind all of
+/// them a FETCH makes the asks of its plan over the catalogue as it was at the DECLARE.
 pub fn cursors_keep_their_rows()
     ensures tables { (answer : Answering) (state : State) (cursor : OpenCursor) (wanted : ℕ) (name : List ℕ) (table : Relation) → IsCursorOf state.catalogue cursor
         → (fetched_step answer (record state { catalogue = with_table name table state.catalogue }) (cursor, wanted)).events
@@ -67,6 +81,18 @@ pub fn cursors_keep_their_rows()
     ensures indexes { (answer : Answering) (state : State) (cursor : OpenCursor) (wanted : ℕ) (def : IndexDef) (ranking : List ScoredRow) → IsCursorOf state.catalogue cursor
         → (fetched_step answer (record state { catalogue = with_index def ranking state.catalogue }) (cursor, wanted)).events
         ≡ (fetched_step answer state (cursor, wanted)).events }
+    ensures rows { (answer : Answering) (state : State) (cursor : OpenCursor) (wanted table : ℕ) (rows : List (List Value)) (indexes : List RankIndex)
+        → IsCursorOf state.catalogue cursor → IndexesHold answer state.catalogue → (growing answer state.catalogue table rows).outcome ≡ Ok indexes
+        → (fetched_step answer (record state { catalogue = grown table rows indexes state.catalogue }) (cursor, wanted)).events
+        ≡ (fetched_step answer state (cursor, wanted)).events }
+    ensures statements { (told : Option FilesTold) (answer : Answering) (evaluating : Evaluating) (state later : State) (commands : List Command) (cursor : OpenCursor) (wanted : ℕ)
+        → AreWritten commands → IndexesHold answer state.catalogue → IsCursorOf state.catalogue cursor → LeadsTo (finds_in told) answer evaluating state commands later
+        → (fetched_step answer later (cursor, wanted)).events ≡ (fetched_step answer state (cursor, wanted)).events }
+    ensures declared { (told : Option FilesTold) (answer : Answering) (evaluating : Evaluating) (state later : State) (commands : List Command) (query : Query) (tree : PlanTree)
+        (name : List ℕ) (asked wanted : ℕ)
+        → Covers state.catalogue query → AreWritten commands → IndexesHold answer state.catalogue → LeadsTo (finds_in told) answer evaluating state commands later
+        → (fetched_from answer later name asked wanted (ByPlan query tree (sizes_in state.catalogue))).events
+        ≡ (asks_from (world_of state.catalogue answer query) tree asked (next_asks (world_of state.catalogue answer query) tree asked wanted)).events }
 {
     plans_ask_the_same_in_larger_catalogues();
 }

@@ -56,6 +56,10 @@ module _ (larger catalogue : CatalogDef) (answer : Answering) (query : Query) (t
   pub next-same : (asked wanted : ℕ) → next_asks large tree asked wanted ≡ next_asks small tree asked wanted
   next-same asked wanted = λ i. min wanted (ask_count (limit_of query) (length (same.list i)) - asked)
 
+-- the asks over one catalogue
+pub SameAsks-itself : (catalogue : CatalogDef) (answer : Answering) (query : Query) (tree : PlanTree) → SameAsks (world_of catalogue answer query) (world_of catalogue answer query) tree
+SameAsks-itself catalogue answer query tree = record { list = refl; rows = refl; asks = λ n. refl }
+
 -- the same of a FETCH of each cursor
 pub alike-fetched : (answer : Answering) (state next : State) (name : List ℕ) (asked wanted : ℕ) (source : Source)
     → ((query : Query) (tree : PlanTree) (sizes : List ℕ) → source ≡ ByPlan query tree sizes

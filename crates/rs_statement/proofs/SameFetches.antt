@@ -9,6 +9,7 @@ use Rattle.std.proofs.Math.Seq.{take-nil}
 use Rattle.std.proofs.lemmas.Bool.{leb-false, leb-true, or_parts}
 use Rattle.std.proofs.lemmas.Cmp.{nat_list_eq_equiv}
 use Rattle.std.proofs.lemmas.List.{drop-take, length-take, take_all}
+use Rattle.rs_value.specs.declared.value.Value.{Value}
 use Rattle.rs_rank.specs.declared.answer.Answer.{Answer}
 use Rattle.rs_rank.specs.declared.scored_row.ScoredRow.{ScoredRow}
 use Rattle.rs_table.specs.FirstRows.{first_rows}
@@ -16,9 +17,11 @@ use Rattle.rs_table.specs.Relation.{Relation}
 use Rattle.rs_expr.specs.Predicates.{PredicateDef}
 use Rattle.rs_expr.specs.Scoring.{Answering}
 use Rattle.rs_catalog.specs.After.{entries_within}
-use Rattle.rs_catalog.specs.Catalog.{CatalogDef, NamedTable, has_name, with_index, with_predicate, with_table}
+use Rattle.rs_catalog.specs.Catalog.{CatalogDef, NamedTable, RankIndex, has_name, with_index, with_predicate, with_table}
+use Rattle.rs_catalog.specs.Growing.{grown, growing}
+use Rattle.rs_catalog.specs.IndexesHold.{IndexesHold}
 use Rattle.rs_catalog.specs.Snapshot.{HaveRows, size_at, snapshot}
-use Rattle.rs_catalog.proofs.SnapshotFacts.{HaveRows-push, snapshot-with_index, snapshot-with_table}
+use Rattle.rs_catalog.proofs.SnapshotFacts.{HaveRows-push, HaveRows-with_rows, snapshot-joined, snapshot-with_index, snapshot-with_table}
 use Rattle.rs_catalog.specs.declared.index.IndexDef.{IndexDef}
 use Rattle.rs_catalog.specs.declared.room.RoomFault.TheVariants as room
 use Rattle.rs_query.specs.Answers.{cut, limit_of}
@@ -33,6 +36,7 @@ use Rattle.rs_exec.proofs.CoversFacts.{covers, covers-larger}
 use Rattle.rs_statement.specs.Lines.{rank_lines}
 use Rattle.rs_statement.specs.Planned.{ask_count}
 use Rattle.rs_statement.specs.Session.{ByPlan, OpenCursor, Ready, asked_more, cursor_named, most_cursors, next_rows, or_session_fault, room_for_cursor}
+use Rattle.rs_statement.proofs.LargerRows.{SameAsks-itself}
 use Rattle.rs_statement.proofs.UnfilteredFacts.{unfiltered}
 
 -- this many of the first rows, where no more are taken than there are
@@ -390,3 +394,14 @@ module _ (answer : Answering) (catalogue : CatalogDef) where
         let seen = snapshot sizes catalogue in
         subst (λ (larger : CatalogDef). SameAsks (world_of larger answer query) (world_of seen answer query) tree) (sym (snapshot-with_index sizes catalogue def ranking))
         (asks.indexes seen answer query tree def (entries_within (size_at sizes def.table) ranking) covered)) ps qs all
+
+    pub all-with_rows : (table : ℕ) (rows : List (List Value)) (indexes : List RankIndex) → IndexesHold answer catalogue → (growing answer catalogue table rows).outcome ≡ Ok indexes
+        → AgreeAll answer (grown table rows indexes catalogue) ps qs
+    all-with_rows table rows indexes held gives =
+        let stays : (sizes : List ℕ) → HaveRows sizes catalogue.tables → snapshot sizes catalogue ≡ snapshot sizes (grown table rows indexes catalogue) =
+        (λ sizes have. sym (snapshot-joined sizes answer catalogue table rows indexes have held gives)) in
+        all-larger (grown table rows indexes catalogue) (λ sizes have. HaveRows-with_rows sizes table rows catalogue.tables have)
+        (λ sizes query have covered. subst (λ (seen : CatalogDef). Covers seen query) (stays sizes have) covered)
+        (λ sizes query tree have covered.
+        subst (λ (seen : CatalogDef). SameAsks (world_of seen answer query) (world_of (snapshot sizes catalogue) answer query) tree) (stays sizes have)
+        (SameAsks-itself (snapshot sizes catalogue) answer query tree)) ps qs all

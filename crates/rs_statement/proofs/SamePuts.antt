@@ -51,7 +51,7 @@ use Rattle.rs_statement.proofs.OneStep.{Does-one}
 use Rattle.rs_events.proofs.OneRun.{OneFile}
 use Rattle.rs_statement.proofs.PlanSteps.{outcome-value, row-given}
 use Rattle.rs_events.proofs.RanFacts.{puts-append, puts-scores}
-use Rattle.rs_statement.proofs.SameFetches.{same-lines, Agree, AgreeAll, AskTheSame, agree-fetched, all-closed, all-fetched, all-opened, all-with_index, all-with_predicate, all-with_table, covers-unfiltered, found-agree, lines-fetched, others-free, without}
+use Rattle.rs_statement.proofs.SameFetches.{same-lines, Agree, AgreeAll, AskTheSame, agree-fetched, all-closed, all-fetched, all-opened, all-with_index, all-with_predicate, all-with_rows, all-with_table, covers-unfiltered, found-agree, lines-fetched, others-free, without}
 use Rattle.rs_statement.proofs.UnfilteredFacts.{few-terms, least-plan, unfiltered-formed}
 
 -- lines alone
@@ -338,7 +338,8 @@ module _ (give : GiveAnswers) (same : AskTheSame) (finds : Finds) (one : OneFile
           left_is = sym left_is;
           right_is = sym right_is ∙ ap planned_with (sym alike.states);
           agree = kept-step answer catalogue (λ c. AgreeAll answer c ps qs) all (all-with_table answer catalogue same ps qs all) (all-with_predicate answer catalogue same ps qs all)
-              (λ def ranking fits made. all-with_index answer catalogue same ps qs all def ranking) finds Plainly command x first.0 written dx first.1;
+              (λ def ranking fits made. all-with_index answer catalogue same ps qs all def ranking)
+              (λ table joining made join gives. all-with_rows answer catalogue same ps qs all table joining made held gives) finds Plainly command x first.0 written dx first.1;
           held = held-step answer catalogue finds Plainly command x first.0 held written dx first.1;
         }
 

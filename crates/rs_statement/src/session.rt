@@ -10,6 +10,7 @@ ghost use Rattle.rs_expr.specs.Scoring.{Answering};
 ghost use Rattle.rs_catalog.specs.Catalog.{CatalogDef, has_name};
 ghost use Rattle.rs_exec.specs.Cursors.{StandsFor};
 ghost use Rattle.rs_catalog.specs.IndexesHold.{IndexesHold};
+ghost use Rattle.rs_catalog.specs.Snapshot.{HaveRows, snapshot};
 ghost use Rattle.rs_query.specs.WellFormed.{IsQuery};
 ghost use Rattle.rs_statement.specs.declared.evaluating.Evaluating.TheVariants.{Plainly, Planned};
 ghost use Rattle.rs_statement.specs.Lines.{rank_lines};
@@ -282,12 +283,30 @@ fn fetch_rows<W: Host>(
     ensures asked { IfOk result (λ _. CanBeAsked (W.state host.old).scorer.answer catalog.now held.new) }
 {
     match held {
-        CursorRows::Asked { cursor, sizes } => {
-            let seen = Snapshot::of(catalog, sizes.as_slice());
-            fetch_asked(alloc, count, &seen, cursor, host)
-        }
+        CursorRows::Asked { cursor, sizes } => fetch_seen(
+            alloc, count, catalog, sizes, cursor, host,
+        ),
         CursorRows::Ready { rows, given } => fetch_ready(alloc, count, rows, given, host.out()),
     }
+}
+
+/// Asks a cursor this many times over tables with so many rows, and puts what it gives.
+fn fetch_seen<W: Host>(
+    alloc: Global,
+    count: u32,
+    catalog: &Catalog,
+    sizes: &[u32],
+    cursor: &mut Cursor,
+    host: &mut W,
+) -> Result<(), Fault>
+    requires have { HaveRows sizes.now catalog.now.tables }
+    requires stands { StandsFor (snapshot sizes.now catalog.now) (W.state host.old).scorer.answer cursor.old }
+    ensures puts { Stepped (λ step. step ≡ wanted_step (snapshot sizes.now catalog.now) (W.state host.old).scorer.answer cursor.old count) (snapshot sizes.now catalog.now)
+        result (W.state host.old) (W.state host.new) }
+    ensures count { IfOk result (λ _. IsAskedMore cursor.old (next_of_cursor (snapshot sizes.now catalog.now) (W.state host.old).scorer.answer cursor.old count) cursor.new) }
+    ensures stands { IfOk result (λ _. StandsFor (snapshot sizes.now catalog.now) (W.state host.old).scorer.answer cursor.new) }
+{
+    fetch_asked(alloc, count, &Snapshot::of(catalog, sizes), cursor, host)
 }
 
 /// Asks a cursor this many times, or up to the end of its rows, and puts each row before it asks for the next one.

@@ -4,7 +4,7 @@ ghost use Rattle.rs_query.specs.WellFormed.{IsBlock};
 ghost use Rattle.rs_ta.specs.BlockTests.{holds_on};
 
 use crate::row_test::RowTest;
-use rs_catalog::Catalog;
+use rs_catalog::{Catalog, Snapshot};
 use rs_query::Block;
 use rs_rank::Ids;
 use rs_value::Memory;
@@ -55,6 +55,7 @@ impl<'a> RowTest for BlockTest<'a> {
             rows: [row, 0, 0, 0, 0, 0],
         };
         let conjuncts = self.block.within(1);
-        Ok(self.block.holds(self.catalog, conjuncts, &ids))
+        let seen = Snapshot::current(self.catalog);
+        Ok(self.block.holds(&seen, conjuncts, &ids))
     }
 }

@@ -28,7 +28,13 @@ fn row_of(mask: u8, rows: [u32; 6]) -> RankRow
 }
 
 /// A row of both entries.
-fn both_rows(rt: &impl Abort, catalog: &Snapshot<'_>, block: &Block, left: u32, right: u32) -> RankRow
+fn both_rows(
+    rt: &impl Abort,
+    catalog: &Snapshot<'_>,
+    block: &Block,
+    left: u32,
+    right: u32,
+) -> RankRow
     requires tables { length catalog.now.tables ≡ 1 }
     requires pair { IsPair block.now }
     ensures mask { result.ids.mask ≡ 3 }

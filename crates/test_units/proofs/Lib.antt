@@ -1,3 +1,4 @@
 pub mod JoinedFacts
 pub mod KindFacts
 mod RowFacts
+pub mod SeenFacts

@@ -3,7 +3,7 @@
 ghost use Rattle.std.specs.Prelude.{◌≡◌, ◌≤◌, ◌<◌, IfOk, length, true};
 ghost use Rattle.rs_table.specs.Relation.{row_fits};
 
-use rs_table::{Cell, MOST_ROWS, Schema, Table};
+use rs_table::{Cell, FirstRows, MOST_ROWS, Schema, Table};
 use rs_value::{Kind, List, Memory, Text, Value};
 use std::alloc::Global;
 use std::hash::RandomState;
@@ -85,6 +85,44 @@ fn numbers_texts_by_first_occurrence(rt: HostRuntime) -> Result<(), Fail> {
     assert_eq!(&rt; number_at(&table, 1), Some(0));
     assert_eq!(&rt; number_at(&table, 2), Some(1));
     assert_eq!(&rt; number_at(&table, 3), Some(0));
+    Ok(())
+}
+
+/// The text of a row in the first column, and its number, where that column is one of texts.
+fn text_at<'a>(rows: &FirstRows<'a>, row: u32) -> Option<(&'a Text, u32)> {
+    if row < 1 || row > rows.len() {
+        return None;
+    }
+    match rows.schema().columns()[0].1 {
+        Kind::Text => Some((rows.text(row, 0), rows.text_number(row, 0))),
+        Kind::Int => None,
+    }
+}
+
+/// Asserts that the first rows of a table have these texts, of these numbers, and that there are no others.
+fn assert_first(rt: &impl Abort, rows: &FirstRows<'_>, want: &[(&str, u32)]) {
+    assert_eq!(rt; rows.len() as usize, want.len());
+    assert_eq!(rt; rows.is_empty(), want.is_empty());
+    let mut row = 0;
+    for (text, number) in want {
+        row += 1;
+        match text_at(rows, row) {
+            Some((got, at)) => assert!(rt; got.as_str() == *text && at == *number, "row {row}"),
+            None => panic!(rt; "row {row} has no text"),
+        }
+    }
+}
+
+#[test]
+fn lends_the_first_rows(rt: HostRuntime) -> Result<(), Fail> {
+    let mut table = table_of(&rt, rt.alloc(), 1, Kind::Text, b"k\nx\ny\n")?;
+    grow(&rt, rt.alloc(), &mut table)?;
+    assert_eq!(&rt; table.len(), 3);
+    let all = [("x", 0), ("y", 1), ("x", 0)];
+    for len in 0..=3u32 {
+        assert!(&rt; len <= table.len());
+        assert_first(&rt, &FirstRows::of(&table, len), &all[..len as usize]);
+    }
     Ok(())
 }
 

@@ -22,7 +22,7 @@ use std::test::Fail;
 const FILE: &[u8] = b"k\n10\n8\n5\n2\n";
 
 /// The number of the one of this name in a list.
-fn number_of(
+pub(crate) fn number_of(
     rt: &impl Abort,
     alloc: Global,
     catalog: &Catalog,
@@ -67,16 +67,17 @@ fn index_of(alloc: Global, name: &str, table: u8, predicate: u8) -> Result<Index
     }
 }
 
-/// Adds the index of this name.
-fn add_index(
+/// Adds the index of this name, of a predicate.
+pub(crate) fn add_index(
     rt: &impl Abort,
     alloc: Global,
     catalog: &mut Catalog,
     name: &str,
+    predicate: &str,
     scorer: &mut MemScorer,
 ) -> Result<(), Fail> {
     let table = number_of(rt, alloc, catalog, What::Table, "left")?;
-    let predicate = number_of(rt, alloc, catalog, What::Predicate, "p")?;
+    let predicate = number_of(rt, alloc, catalog, What::Predicate, predicate)?;
     let def = index_of(alloc, name, table, predicate)?;
     assert!(rt; can_be_made(catalog, &def));
     Ok(catalog.add_index(alloc, def, scorer)?)
@@ -153,7 +154,7 @@ fn grow(
 }
 
 /// Asserts the entries of an index whose rows are among the first so many.
-fn assert_entries(
+pub(crate) fn assert_entries(
     rt: &impl Abort,
     alloc: Global,
     catalog: &Catalog,
@@ -185,7 +186,7 @@ fn score_of(catalog: &Catalog, index: u8, row: u32) -> Option<u32>
 }
 
 /// Asserts the numbers that the last calls of a scorer asked for.
-fn assert_last_calls(rt: &impl Abort, scorer: &MemScorer, want: &[i64]) {
+pub(crate) fn assert_last_calls(rt: &impl Abort, scorer: &MemScorer, want: &[i64]) {
     let calls = scorer.calls();
     assert!(rt; calls.len() >= want.len());
     for (call, number) in calls[calls.len() - want.len()..].iter().zip(want) {
@@ -194,7 +195,7 @@ fn assert_last_calls(rt: &impl Abort, scorer: &MemScorer, want: &[i64]) {
 }
 
 /// Puts two rows of these numbers last, and asserts what comes of it.
-fn assert_grown(
+pub(crate) fn assert_grown(
     rt: &impl Abort,
     alloc: Global,
     catalog: &mut Catalog,
@@ -214,8 +215,8 @@ fn assert_joined(
     catalog: &mut Catalog,
     scorer: &mut MemScorer,
 ) -> Result<(), Fail> {
-    add_index(rt, alloc, catalog, "one", scorer)?;
-    add_index(rt, alloc, catalog, "two", scorer)?;
+    add_index(rt, alloc, catalog, "one", "p", scorer)?;
+    add_index(rt, alloc, catalog, "two", "p", scorer)?;
     assert_grown(rt, alloc, catalog, (9, 8), scorer, Ok(()))?;
     assert_last_calls(rt, scorer, &[9, 8, 9, 8]);
     let all = [(10, 1), (9, 5), (8, 2), (8, 6), (5, 3), (2, 4)];
@@ -234,7 +235,7 @@ fn assert_refused(
     catalog: &mut Catalog,
     scorer: &mut MemScorer,
 ) -> Result<(), Fail> {
-    add_index(rt, alloc, catalog, "one", scorer)?;
+    add_index(rt, alloc, catalog, "one", "p", scorer)?;
     let bad = GrowFault::BadScore {
         index: 0,
         row: 6,

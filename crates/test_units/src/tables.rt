@@ -41,11 +41,12 @@ fn assert_room(rt: &impl Abort, catalog: &Catalog, what: What, name: &Text)
     assert!(rt; catalog.room(what, name) == Ok(()));
 }
 
-/// Adds the predicate "p" of these parameters.
-fn add_predicate(
+/// Adds the predicate of this name and these parameters.
+pub(crate) fn add_predicate(
     rt: &impl Abort,
     alloc: Global,
     catalog: &mut Catalog,
+    name: &str,
     params: &[Kind],
     max: u32,
 ) -> Result<(), Fail>
@@ -55,7 +56,7 @@ fn add_predicate(
     ensures predicate { IfOk result (λ _. catalog.old.predicates ≡ [] → HasPredicate params.now max catalog.new) }
     ensures tables { IfOk result (λ _. catalog.new.tables ≡ catalog.old.tables) }
 {
-    let name = text(alloc, "p")?;
+    let name = text(alloc, name)?;
     let params = Vec::from_slice(alloc, params)?;
     assert_room(rt, catalog, What::Predicate, &name);
     Ok(catalog.add_predicate(predicate(name, List::of(params), max))?)
@@ -108,7 +109,7 @@ fn fill(
     ensures tables { IfOk result (λ _. length catalog.new.tables ≡ 2) }
     ensures predicate { IfOk result (λ _. HasPredicate params.now max catalog.new) }
 {
-    add_predicate(rt, alloc, catalog, params, max)?;
+    add_predicate(rt, alloc, catalog, "p", params, max)?;
     add_table(rt, alloc, catalog, "left", files.0)?;
     add_table(rt, alloc, catalog, "right", files.1)
 }

@@ -1,32 +1,34 @@
-use Rattle.std.proofs.Common.{subst, sym}
-use Rattle.rs_table.specs.FirstRows.{first_rows}
-use Rattle.rs_catalog.specs.After.{entries_within}
-use Rattle.rs_catalog.specs.Catalog.{CatalogDef, with_index, with_predicate, with_table}
-use Rattle.rs_catalog.specs.Snapshot.{size_at, snapshot}
-use Rattle.rs_catalog.proofs.SnapshotFacts.{snapshot-with_index, snapshot-with_table}
-use Rattle.rs_exec.specs.Asking.{world_of}
-use Rattle.rs_exec.specs.Cursors.{SameAsks}
-use Rattle.rs_statement.proofs.LargerRows.{IsCursorOf-plan, alike-fetched}
+use Rattle.std.proofs.Common.{◌∙◌}
+use Rattle.rs_catalog.specs.Catalog.{with_index, with_predicate, with_table}
+use Rattle.rs_catalog.specs.Growing.{grown}
+use Rattle.rs_catalog.specs.Snapshot.{sizes_in}
+use Rattle.rs_events.specs.Events.{finds_in}
+use Rattle.rs_statement.specs.Session.{ByPlan, OpenCursor}
+use Rattle.rs_statement.proofs.SameFetches.{AskTheSame}
+use Rattle.rs_run.proofs.LaterFacts.{KeepsFetch-states, declared-cursor, declared-events, goes-on, keeps-grown, keeps-with_index, keeps-with_predicate, keeps-with_table}
 use Rattle.rs_run.proofs.laws.cursors_keep_their_rows.Goals as goal
 
 pub returns : goal.returns
 returns c =
-    let same = c.plans_ask_the_same_in_larger_catalogues.ensures in record {
+    let asks = c.plans_ask_the_same_in_larger_catalogues.ensures in
+    let same : AskTheSame = record { tables = asks.tables; predicates = asks.predicates; indexes = asks.indexes } in record {
       tables = λ answer state cursor wanted name table is.
-          alike-fetched answer state (record state { catalogue = with_table name table state.catalogue }) cursor.name cursor.asked wanted cursor.source
-          (λ query tree sizes e.
-          let seen = snapshot sizes state.catalogue in
-          let sees = IsCursorOf-plan state.catalogue cursor query tree sizes is e in
-          subst (λ (more : CatalogDef). SameAsks (world_of more answer query) (world_of seen answer query) tree) (sym (snapshot-with_table sizes state.catalogue name table sees.0))
-          (same.tables seen answer query tree name (first_rows 0 table) sees.1));
+          KeepsFetch-states same answer cursor wanted state (record state { catalogue = with_table name table state.catalogue })
+          (keeps-with_table same answer cursor wanted state.catalogue is name table);
       predicates = λ answer state cursor wanted predicate is.
-          alike-fetched answer state (record state { catalogue = with_predicate predicate state.catalogue }) cursor.name cursor.asked wanted cursor.source
-          (λ query tree sizes e. same.predicates (snapshot sizes state.catalogue) answer query tree predicate (IsCursorOf-plan state.catalogue cursor query tree sizes is e).1);
+          KeepsFetch-states same answer cursor wanted state (record state { catalogue = with_predicate predicate state.catalogue })
+          (keeps-with_predicate same answer cursor wanted state.catalogue is predicate);
       indexes = λ answer state cursor wanted def ranking is.
-          alike-fetched answer state (record state { catalogue = with_index def ranking state.catalogue }) cursor.name cursor.asked wanted cursor.source
-          (λ query tree sizes e.
-          let seen = snapshot sizes state.catalogue in
-          let sees = IsCursorOf-plan state.catalogue cursor query tree sizes is e in
-          subst (λ (more : CatalogDef). SameAsks (world_of more answer query) (world_of seen answer query) tree) (sym (snapshot-with_index sizes state.catalogue def ranking))
-          (same.indexes seen answer query tree def (entries_within (size_at sizes def.table) ranking) sees.1));
+          KeepsFetch-states same answer cursor wanted state (record state { catalogue = with_index def ranking state.catalogue })
+          (keeps-with_index same answer cursor wanted state.catalogue is def ranking);
+      rows = λ answer state cursor wanted table rows indexes is held gives.
+          KeepsFetch-states same answer cursor wanted state (record state { catalogue = grown table rows indexes state.catalogue })
+          (keeps-grown same answer cursor wanted state.catalogue is table rows indexes held gives);
+      statements = λ told answer evaluating state later commands cursor wanted written held is leads.
+          KeepsFetch-states same answer cursor wanted state later (goes-on same answer cursor wanted (finds_in told) evaluating commands state later written held is leads);
+      declared = λ told answer evaluating state later commands query tree name asked wanted covered written held leads.
+          let cursor : OpenCursor = record { name = name; source = ByPlan query tree (sizes_in state.catalogue); asked = asked } in
+          KeepsFetch-states same answer cursor wanted state later
+          (goes-on same answer cursor wanted (finds_in told) evaluating commands state later written held (declared-cursor answer state held query tree name asked covered) leads)
+          ∙ declared-events answer state held query tree name asked wanted;
     }

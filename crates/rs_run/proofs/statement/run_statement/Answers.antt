@@ -90,5 +90,5 @@ returns-in_default g c =
             tables = λ seen cursor name table. larger.tables seen answer cursor name table;
             predicates = λ seen cursor predicate. larger.predicates seen answer cursor predicate;
             indexes = λ seen cursor def ranking. larger.indexes seen answer cursor def ranking;
-          }) c.requires.asked c.requires.written does leaves);
+          }) c.requires.held c.requires.asked c.requires.written does leaves);
     }

@@ -1,7 +1,16 @@
-use Rattle.std.proofs.Common.{◌∙◌}
+use Rattle.std.proofs.Common.{List, ◌≡◌, ◌∙◌, refl, subst, sym}
 use Rattle.rs_syntax.specs.Syntax.{command_of, query_of}
-use Rattle.rs_events.specs.Events.{finds_in}
-use Rattle.rs_statement.specs.Statements.{Does, analyze_step, explain_step, predicate_outcome, select_step}
+use Rattle.rs_syntax.specs.declared.name.Name.{Name}
+use Rattle.rs_syntax.specs.declared.row.RowSyn.{RowSyn}
+use Rattle.rs_syntax.specs.declared.statement.Statement.{Statement}
+use Rattle.rs_syntax.specs.declared.statement.Statement.TheVariants.{Insert}
+use Rattle.rs_expr.specs.Scoring.{Answering}
+use Rattle.rs_catalog.specs.Catalog.{CatalogDef}
+use Rattle.rs_bind.specs.Inserts.{insert_of}
+use Rattle.rs_events.specs.Events.{Finds, finds_in}
+use Rattle.rs_statement.specs.Inserts.{insert_step}
+use Rattle.rs_statement.specs.Statements.{Does, analyze_step, explain_step, or_bind_fault, predicate_outcome, refused_or, select_step}
+use Rattle.rs_statement.specs.declared.evaluating.Evaluating.{Evaluating}
 use Rattle.rs_statement.proofs.StepFacts.{Does-analyze, Does-explain, Does-index, Does-predicate, Does-query, Does-table, of_a_kind}
 use Rattle.rs_events.proofs.SteppedFacts.{Stepped-is, Stepped-map, Stepped-still}
 use Rattle.rs_run.proofs.statement.run_without_cursor.Goals as goal
@@ -25,6 +34,24 @@ returns-in-CreateRankIndex g c =
     (Does-index finds old.scorer.answer c.args.evaluating c.args.catalog.now c.args.statement.now _ _ _ _ _ c.in-CreateRankIndex.is)
     (rw c.scorer.ensures.value at c.create_index.ensures old))
 
+-- what a statement does whose rows join a table
+does-insert : (finds : Finds) (answer : Answering) (evaluating : Evaluating) (catalogue : CatalogDef) (s : Statement) (table : Name) (rows : List RowSyn) → s ≡ Insert table rows
+    → Does finds answer evaluating catalogue (command_of s) (refused_or (insert_step answer catalogue) (or_bind_fault (insert_of catalogue (command_of s))))
+does-insert finds answer evaluating catalogue s table rows e =
+    subst (λ s. Does finds answer evaluating catalogue (command_of s) (refused_or (insert_step answer catalogue) (or_bind_fault (insert_of catalogue (command_of s))))) (sym e) refl
+
+pub insert_rows-requires : goal.insert_rows-requires
+insert_rows-requires g c = record { form = rw c.in-Insert.is tt; written = c.requires.written }
+
+pub returns-in-Insert : goal.returns-in-Insert
+returns-in-Insert g c =
+    let old = g.W.Host.state c.args.host.now in
+    let finds = finds_in old.files.told in
+    rw g.met.W.Host.after_scorer (
+    Stepped-is (Does finds old.scorer.answer c.args.evaluating c.args.catalog.now (command_of c.args.statement.now)) _ c.insert_rows.new.catalog c.insert_rows.result old _
+    (does-insert finds old.scorer.answer c.args.evaluating c.args.catalog.now c.args.statement.now _ _ c.in-Insert.is)
+    (rw c.scorer.ensures.value at c.insert_rows.ensures.does old))
+
 pub returns-in-CreatePredicate : goal.returns-in-CreatePredicate
 returns-in-CreatePredicate g c =
     let old = g.W.Host.state c.args.host.now in
@@ -36,7 +63,7 @@ returns-in-CreatePredicate g c =
 pub unreachable-requires : goal.unreachable-requires
 unreachable-requires g c =
     of_a_kind c.args.statement.now c.in_default.not-CreateTable c.in_default.not-CreatePredicate c.in_default.not-CreateRankIndex c.in_default.not-Query c.in_default.not-Explain
-    c.in_default.not-ExplainAnalyze c.requires.form
+    c.in_default.not-ExplainAnalyze c.in_default.not-Insert c.requires.form
 
 pub run_select-requires : goal.run_select-requires
 run_select-requires g c = record { written = rw c.in-Query.is at c.requires.written; held = c.requires.held }

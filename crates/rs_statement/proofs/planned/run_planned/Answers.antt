@@ -39,7 +39,7 @@ pub put_all-put-requires : goal.put_all-put-requires
 put_all-put-requires g c = record {
   stands = rw g.met.W.Host.after_scorer (subst (λ answer. StandsFor c.current.result answer c.in_ok-cursor.cursor)
       (sym (c.in_ok-cursor.ensures.calls (g.W.Host.state c.args.host.now)).ran.keeps.scorer.answer)
-      (subst (λ (seen : CatalogDef). StandsFor seen (g.W.Host.state c.args.host.now).scorer.answer c.in_ok-cursor.cursor) (sym c.current.ensures) c.in_ok-cursor.ensures.stands));
+      (subst (λ (seen : CatalogDef). StandsFor seen (g.W.Scorer.Scorer.state c.scorer.result.now).answer c.in_ok-cursor.cursor) (sym c.current.ensures) c.in_ok-cursor.ensures.stands));
 }
 
 pub returns : goal.returns

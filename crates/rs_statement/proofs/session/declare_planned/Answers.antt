@@ -95,8 +95,9 @@ returns g c =
           (opened-planned catalogue entries left name.text (held.Asked cursor sizes) query (plan_for answer catalogue c.args.sampling query) (sizes_in catalogue) opened
           (λ i. ByPlan (at.query_is i) (at.plan_is i) (sizes_are i)) at.asks_are);
       asked = subst (CanAllBeAsked answer catalogue) (sym opened)
-          (asked-append answer catalogue entries name.text (held.Asked cursor sizes) c.requires.asked
-          (subst (λ (s : List ℕ). HaveRows s catalogue.tables) (sym sizes_are) (HaveRows-all catalogue.tables),
-          subst (λ (s : List ℕ). StandsFor (snapshot s catalogue) answer cursor) (sym sizes_are)
-          (subst (λ (seen : CatalogDef). StandsFor seen answer cursor) (sym (snapshot-all answer catalogue c.requires.held)) c.in_ok-cursor.ensures.stands)));
+          (asked-append answer catalogue entries name.text (held.Asked cursor sizes) c.requires.asked (
+            subst (λ (s : List ℕ). HaveRows s catalogue.tables) (sym sizes_are) (HaveRows-all catalogue.tables),
+            subst (λ (s : List ℕ). StandsFor (snapshot s catalogue) answer cursor) (sym sizes_are)
+                (subst (λ (seen : CatalogDef). StandsFor seen answer cursor) (sym (snapshot-all answer catalogue c.requires.held)) c.in_ok-cursor.ensures.stands),
+          ));
     }
