@@ -38,7 +38,7 @@ use Rattle.rs_query.proofs.LocalFacts.{inside-has}
 use Rattle.rs_query.proofs.TopFacts.{top-by_cases, worth-top}
 
 -- numbers that agree one by one
-same-in : {A : Type 0} (f g : A → ℕ) (xs : List A) (x : A) → map f xs ≡ map g xs → In x xs → f x ≡ g x
+pub same-in : {A : Type 0} (f g : A → ℕ) (xs : List A) (x : A) → map f xs ≡ map g xs → In x xs → f x ≡ g x
 same-in f g [] x same here = absurd here
 same-in f g (y ∷ ys) x same here =
     let first : f y ≡ g y = cc in
@@ -287,7 +287,7 @@ all-low catalogue block low = each block.terms where
   each (term ∷ terms) = (low term, each terms)
 
 -- a mask is inside itself
-own-inside : (mask : ℕ) → is_inside mask mask ≡ true
+pub own-inside : (mask : ℕ) → is_inside mask mask ≡ true
 own-inside mask =
     eq-eqb (bit_and mask mask) mask (same_from_bits (bit_and mask mask) mask (λ i. let both = bit_at_and mask mask i in omega arith))
 
