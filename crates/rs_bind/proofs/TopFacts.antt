@@ -18,7 +18,7 @@ use Rattle.rs_query.specs.declared.block.Block.{Block}
 use Rattle.rs_query.specs.declared.query.Query.{Query}
 use Rattle.rs_query.specs.declared.query.Query.TheVariants.{One, Set}
 use Rattle.rs_query.specs.declared.term.Term.{Term}
-use Rattle.rs_query.proofs.BoundedFacts.{HasLowTops, formed-tops, has-tops}
+use Rattle.rs_query.proofs.BoundedFacts.{formed-tops, has-tops}
 
 -- numbers with 0 behind them are there in front
 pub take-padded : (size : ℕ) (numbers : List ℕ) → length numbers ≤ size → take (length numbers) (padded size numbers) ≡ numbers
@@ -83,12 +83,6 @@ low-by catalogue predicate number score within is low =
       some-at (x ∷ xs) zero less = (x, refl)
       some-at (x ∷ xs) (suc i) less = some-at xs i (omega arith)
 
--- one more item of which something holds
-pub each-more : {A : Type 0} (P : A → Type 0) (xs : List A) (place : ℕ) (x : A) → place < length xs → x ≡ get_or xs place x → AllByRecursion P (take place xs) → P x
-    → AllByRecursion P (take (place + 1) xs)
-each-more P xs place x within is before here =
-    subst (AllByRecursion P) (sym (take_more xs place x within ∙ ap (λ t. take place xs ++ t ∷ []) (sym is))) (each-push P (take place xs) x before here)
-
 -- the top of the term at a place is the number at that place
 pub top-at : (f : Term → ℕ) (terms : List Term) (place : ℕ) (term : Term) → place < length terms → term ≡ get_or terms place term → f term ≡ get_or (map f terms) place (f term)
 top-at f [] place term within is = absurd (omega arith)
@@ -120,29 +114,28 @@ pub record HasTopsOf (catalogue : CatalogDef) (query made : Query) : Type 0 wher
   pub formed : IsQuery catalogue made
   pub tops : HasTops catalogue made
 
-tops-of : (catalogue : CatalogDef) (query made : Query) → IsQuery catalogue query → ((number : ℕ) → HasLowTops catalogue (block_in query number)) → made ≡ with_tops catalogue query
-    → HasTopsOf catalogue query made
-tops-of catalogue query made is low value = record {
+tops-of : (catalogue : CatalogDef) (query made : Query) → IsQuery catalogue query → made ≡ with_tops catalogue query → HasTopsOf catalogue query made
+tops-of catalogue query made is value = record {
   value = value;
-  formed = subst (IsQuery catalogue) (sym value) (formed-tops catalogue query is low);
+  formed = subst (IsQuery catalogue) (sym value) (formed-tops catalogue query is);
   tops = subst (HasTops catalogue) (sym value) (has-tops catalogue query is);
 }
 
 pub one-bounded : (catalogue : CatalogDef) (query : Query) (block made : Block) (limit : Option ℕ) (tops : List ℕ) → query ≡ One block limit → IsQuery catalogue query
-    → tops ≡ padded 8 (tops_of catalogue block) → HasLowTops catalogue block → made ≡ bounded_by (take (length block.terms) tops) block → HasTopsOf catalogue query (One made limit)
-one-bounded catalogue query block made limit tops is formed tops_are low made_is =
+    → tops ≡ padded 8 (tops_of catalogue block) → made ≡ bounded_by (take (length block.terms) tops) block → HasTopsOf catalogue query (One made limit)
+one-bounded catalogue query block made limit tops is formed tops_are made_is =
     let own : IsQuery catalogue (One block limit) = subst (IsQuery catalogue) is formed in
     let few = own.0.most_terms in
     let count : length (tops_of catalogue block) ≡ length block.terms = length-map block.terms (top_of catalogue block) in
     let taken : take (length block.terms) tops ≡ tops_of catalogue block =
     ap (take (length block.terms)) tops_are ∙ ap (λ n. take n (padded 8 (tops_of catalogue block))) (sym count) ∙ take-padded 8 (tops_of catalogue block) (omega arith) in
     let value : One made limit ≡ with_tops catalogue (One block limit) = ap (λ (b : Block). One b limit) (made_is ∙ ap (λ ms. bounded_by ms block) taken) in
-    subst (λ q. HasTopsOf catalogue q (One made limit)) (sym is) (tops-of catalogue (One block limit) (One made limit) own (λ number. low) value)
+    subst (λ q. HasTopsOf catalogue q (One made limit)) (sym is) (tops-of catalogue (One block limit) (One made limit) own value)
 
 pub set-bounded : (catalogue : CatalogDef) (query : Query) (op : SetOp) (left right made other : Block) (limit : Option ℕ) (tops : List ℕ) → query ≡ Set op left right limit → IsQuery catalogue query
-    → tops ≡ padded 8 (set_tops catalogue left right) → HasLowTops catalogue left → HasLowTops catalogue right
+    → tops ≡ padded 8 (set_tops catalogue left right)
     → made ≡ bounded_by (take (length left.terms) tops) left → other ≡ bounded_by (take (length right.terms) tops) right → HasTopsOf catalogue query (Set op made other limit)
-set-bounded catalogue query op left right made other limit tops is formed tops_are left_low right_low made_is other_is =
+set-bounded catalogue query op left right made other limit tops is formed tops_are made_is other_is =
     let own : IsQuery catalogue (Set op left right limit) = subst (IsQuery catalogue) is formed in
     let few = own.0.left_block.most_terms in
     let same = same-lengths left right left.terms right.terms own.0.terms in
@@ -153,7 +146,4 @@ set-bounded catalogue query op left right made other limit tops is formed tops_a
     let value : Set op made other limit ≡ with_tops catalogue (Set op left right limit) =
     ap₂ (λ (a b : Block). Set op a b limit) (made_is ∙ ap (λ ms. bounded_by ms left) taken) (other_is ∙ ap (λ ms. bounded_by ms right) right_taken) in
     subst (λ q. HasTopsOf catalogue q (Set op made other limit)) (sym is)
-    (tops-of catalogue (Set op left right limit) (Set op made other limit) own (λ number. low_in (eqb number 1)) value) where
-      low_in : (b : Bool) → HasLowTops catalogue (cond b left right)
-      low_in true = left_low
-      low_in false = right_low
+    (tops-of catalogue (Set op left right limit) (Set op made other limit) own value)

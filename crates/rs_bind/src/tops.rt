@@ -1,10 +1,9 @@
 //! The tops of a query's terms: the first score of a term's rank index bounds what the term is worth.
 
 ghost use Rattle.std.specs.Prelude.{◌≡◌, ◌<◌, ◌≤◌, IfSome, length, max, option_map, slice_get, take, Some, ℕ};
-ghost use Rattle.std.specs.List.{AllByRecursion};
 ghost use Rattle.rs_catalog.specs.Indexes.{predicate_for, ranking_at};
 ghost use Rattle.rs_catalog.specs.declared.index.IndexDef.{IndexDef as Defined};
-ghost use Rattle.rs_query.specs.Answers.{padded, predicate_at};
+ghost use Rattle.rs_query.specs.Answers.{padded};
 ghost use Rattle.rs_query.specs.Tops.{HasTops, bounded_by, first_score, set_tops, top_by, top_of, tops_of, with_maxima, with_tops};
 ghost use Rattle.rs_query.specs.WellFormed.{IsBlock, IsQuery};
 
@@ -37,9 +36,7 @@ fn set_tops(catalog: &Catalog, left: &Block, right: &Block) -> [u32; 8]
     requires left { IsBlock catalog.now left.now }
     requires right { IsBlock catalog.now right.now }
     requires same { length left.now.terms ≡ length right.now.terms }
-    ensures value { result ≡ padded 8 (set_tops catalog.now left.now right.now) }
-    ensures left_low { AllByRecursion (λ t. top_of catalog.now left.now t ≤ (predicate_at catalog.now t.predicate).max) left.now.terms }
-    ensures right_low { AllByRecursion (λ t. top_of catalog.now right.now t ≤ (predicate_at catalog.now t.predicate).max) right.now.terms }
+    ensures { result ≡ padded 8 (set_tops catalog.now left.now right.now) }
 {
     let mut tops = [0; 8];
     for place in 0..left.terms.len() {
@@ -60,8 +57,7 @@ fn greater(one: u32, other: u32) -> u32
 /// The tops of the terms of a block, and 0 past the last one.
 fn tops_of(catalog: &Catalog, block: &Block) -> [u32; 8]
     requires { IsBlock catalog.now block.now }
-    ensures value { result ≡ padded 8 (tops_of catalog.now block.now) }
-    ensures low { AllByRecursion (λ t. top_of catalog.now block.now t ≤ (predicate_at catalog.now t.predicate).max) block.now.terms }
+    ensures { result ≡ padded 8 (tops_of catalog.now block.now) }
 {
     let mut tops = [0; 8];
     for place in 0..block.terms.len() {
@@ -74,8 +70,7 @@ fn tops_of(catalog: &Catalog, block: &Block) -> [u32; 8]
 fn top_of(catalog: &Catalog, block: &Block, term: &Term) -> u32
     requires few { length block.now.from ≤ 6 }
     requires predicate { term.now.predicate < length catalog.now.predicates }
-    ensures value { result ≡ top_of catalog.now block.now term.now }
-    ensures low { result ≤ (predicate_at catalog.now term.now.predicate).max }
+    ensures { result ≡ top_of catalog.now block.now term.now }
 {
     for (place, from) in block.from.items().iter().enumerate() {
         let entry = place as u8 + 1;
@@ -93,8 +88,7 @@ fn top_by(catalog: &Catalog, predicate: u8, index: Option<u8>) -> u32
     requires within { IfSome index (λ number. number < length catalog.now.indexes) }
     requires index { (number : ℕ) → index ≡ Some number → (def : Defined)
         → option_map (λ i. i.def) (slice_get catalog.now.indexes number) ≡ Some def → def.predicate ≡ predicate }
-    ensures value { result ≡ top_by catalog.now predicate index }
-    ensures low { result ≤ (predicate_at catalog.now predicate).max }
+    ensures { result ≡ top_by catalog.now predicate index }
 {
     match index {
         None => catalog.predicate(predicate).max(),

@@ -1,6 +1,6 @@
 -- Queries whose terms have their tops: they are well formed, and no term of them is worth more.
 use Rattle.std.proofs.Common.{ℕ, suc, ◌≡◌, ◌∙◌, ◌+◌, ◌-◌, ◌≤◌, max, Bool, true, false, cond, eqb, eq-eqb, List, [], ◌∷◌, length, map, refl, sym, ap, subst, inl, inr, arith}
-use Rattle.std.specs.Prelude.{Option, Some, None, bit_and, option_map, unwrap_or}
+use Rattle.std.specs.Prelude.{Option, Some, None, Ok, bit_and, option_map, unwrap_or}
 use Rattle.std.specs.Int.{bit_at}
 use Rattle.std.specs.List.{AllByRecursion}
 use Rattle.std.proofs.lemmas.Bool.{eqb-true}
@@ -8,13 +8,15 @@ use Rattle.std.proofs.lemmas.List.{length-map}
 use Rattle.std.proofs.lemmas.Nat.Bits.{bit_at_and, same_from_bits}
 use Rattle.rs_order.specs.Climbing.{In}
 use Rattle.rs_order.proofs.ClimbingFacts.{AllByRecursion-In}
-use Rattle.rs_order.proofs.EachFacts.{each-weaker}
-use Rattle.rs_order.proofs.PartFacts.{In-slice_get}
+use Rattle.rs_order.proofs.EachFacts.{each-slice_get, each-weaker}
 use Rattle.rs_expr.specs.Predicates.{PredicateDef}
 use Rattle.rs_expr.specs.Scoring.{Answering}
 use Rattle.rs_catalog.specs.Catalog.{CatalogDef, RankIndex}
-use Rattle.rs_catalog.specs.Indexes.{index_of, predicate_for}
-use Rattle.rs_catalog.specs.IndexesHold.{IndexesHold}
+use Rattle.rs_value.specs.declared.value.Value.{Value}
+use Rattle.rs_rank.specs.declared.scored_row.ScoredRow.{ScoredRow}
+use Rattle.rs_catalog.specs.Indexes.{IsRanking, index_of, making_of, predicate_for, ranking_at, rows_for}
+use Rattle.rs_catalog.specs.declared.index.BoundArg.{BoundArg}
+use Rattle.rs_catalog.specs.IndexesHold.{IndexHolds, IndexesHold}
 use Rattle.rs_catalog.proofs.IndexForFacts.{index-for}
 use Rattle.rs_query.specs.declared.block.Block.{Block}
 use Rattle.rs_query.specs.declared.term.Term.{Term}
@@ -35,7 +37,7 @@ use Rattle.rs_query.proofs.ChoiceFacts.{In-combinations-back}
 use Rattle.rs_query.proofs.GrownAnswerFacts.{HasRows-sizes, worth-grows}
 use Rattle.rs_query.proofs.GrowthFacts.{size-grows}
 use Rattle.rs_query.proofs.LocalFacts.{inside-has}
-use Rattle.rs_query.proofs.TopFacts.{top-by_cases, worth-top}
+use Rattle.rs_query.proofs.TopFacts.{first_score-low, top-by_cases, worth-top}
 
 -- numbers that agree one by one
 pub same-in : {A : Type 0} (f g : A → ℕ) (xs : List A) (x : A) → map f xs ≡ map g xs → In x xs → f x ≡ g x
@@ -214,7 +216,7 @@ same-bounded left right maxima (most ∷ all) (x ∷ xs) (y ∷ ys) same =
     (record { weight = same.0.weight; predicate = same.0.predicate; max = refl; args = same.0.args }, same-bounded left right maxima all xs ys same.1)
 
 -- the tops of a block are such that its predicates may give them
-abbrev pub HasLowTops : CatalogDef → Block → Type 0
+abbrev HasLowTops : CatalogDef → Block → Type 0
 HasLowTops catalogue block = AllByRecursion (λ (t : Term). top_of catalogue block t ≤ (predicate_at catalogue t.predicate).max) block.terms
 
 low-one : (catalogue : CatalogDef) (block : Block) (maxima : List ℕ) (terms : List Term) → AllByRecursion (λ (t : Term). top_of catalogue block t ≤ (predicate_at catalogue t.predicate).max) terms
@@ -246,45 +248,38 @@ low-right catalogue left right maxima (x ∷ xs) (y ∷ ys) same low other =
     let others = other.0 in
     (omega arith, low-right catalogue left right maxima xs ys same.1 low.1 other.1)
 
--- a query that gets low tops stays well formed
-pub formed-tops : (catalogue : CatalogDef) (query : Query) → IsQuery catalogue query → ((number : ℕ) → HasLowTops catalogue (block_in query number)) → IsQuery catalogue (with_tops catalogue query)
-formed-tops catalogue (One block limit) is low = (
-  block-bounded catalogue block (tops_of catalogue block) (low-one catalogue block (tops_of catalogue block) block.terms (low 1)) is.0,
+-- no top passes the greatest score of the predicate
+top-low : (catalogue : CatalogDef) (block : Block) (term : Term) → top_of catalogue block term ≤ (predicate_at catalogue term.predicate).max
+top-low catalogue block term =
+    top-by_cases (λ most. most ≤ (predicate_at catalogue term.predicate).max) catalogue term 1 block.from (omega arith)
+    (λ i from there alone. low_by (index_of from.0 term.predicate term.args (1 + i) catalogue)) where
+      low_by : (o : Option ℕ) → top_by catalogue term.predicate o ≤ (predicate_at catalogue term.predicate).max
+      low_by None = omega arith
+      low_by (Some index) = omega arith
+
+all-low : (catalogue : CatalogDef) (block : Block) → HasLowTops catalogue block
+all-low catalogue block = each block.terms where
+  each : (terms : List Term) → AllByRecursion (λ (t : Term). top_of catalogue block t ≤ (predicate_at catalogue t.predicate).max) terms
+  each [] = tt
+  each (term ∷ terms) = (top-low catalogue block term, each terms)
+
+-- a query that gets its tops stays well formed
+pub formed-tops : (catalogue : CatalogDef) (query : Query) → IsQuery catalogue query → IsQuery catalogue (with_tops catalogue query)
+formed-tops catalogue (One block limit) is = (
+  block-bounded catalogue block (tops_of catalogue block) (low-one catalogue block (tops_of catalogue block) block.terms (all-low catalogue block)) is.0,
   λ wanted. outputs-bounded catalogue block (tops_of catalogue block) (tops_of catalogue block) block.terms (is.1 wanted),
   is.2,
 )
-formed-tops catalogue (Set op left right limit) is low =
+formed-tops catalogue (Set op left right limit) is =
     let maxima = set_tops catalogue left right in (
       record {
-        left_block = block-bounded catalogue left maxima (low-left catalogue left right maxima left.terms right.terms is.0.terms (low 1) (low 2)) is.0.left_block;
-        right_block = block-bounded catalogue right maxima (low-right catalogue left right maxima left.terms right.terms is.0.terms (low 1) (low 2)) is.0.right_block;
+        left_block = block-bounded catalogue left maxima (low-left catalogue left right maxima left.terms right.terms is.0.terms (all-low catalogue left) (all-low catalogue right)) is.0.left_block;
+        right_block = block-bounded catalogue right maxima (low-right catalogue left right maxima left.terms right.terms is.0.terms (all-low catalogue left) (all-low catalogue right)) is.0.right_block;
         kinds = is.0.kinds;
         terms = same-bounded left right maxima maxima left.terms right.terms is.0.terms;
       },
       is.1,
     )
-
--- where no index has a score that its predicate may not give, the tops are low
-pub low-tops : (catalogue : CatalogDef) → ((index : RankIndex) → In index catalogue.indexes → first_score index.ranking ≤ (predicate_for catalogue index.def).max)
-    → (block : Block) (term : Term) → top_of catalogue block term ≤ (predicate_at catalogue term.predicate).max
-low-tops catalogue low block term =
-    top-by_cases (λ most. most ≤ (predicate_at catalogue term.predicate).max) catalogue term 1 block.from (omega arith)
-    (λ i from there alone. by_index from.0 (1 + i) (index_of from.0 term.predicate term.args (1 + i) catalogue) refl) where
-      by_index : (table entry : ℕ) (o : Option ℕ) → index_of table term.predicate term.args entry catalogue ≡ o → top_by catalogue term.predicate o ≤ (predicate_at catalogue term.predicate).max
-      by_index table entry None first = omega arith
-      by_index table entry (Some index) first =
-          let is_for = index-for catalogue table term.predicate term.args entry index first in
-          let ranking = ap (λ (o : Option RankIndex). first_score (unwrap_or (option_map (λ (i : RankIndex). i.ranking) o) [])) is_for.there in
-          let own = low is_for.found (In-slice_get index catalogue.indexes is_for.found is_for.there) in
-          let predicate : (predicate_for catalogue is_for.found.def).max ≡ (predicate_at catalogue term.predicate).max = ap (λ n. (predicate_at catalogue n).max) is_for.predicate_is in
-          omega arith
-
--- so it is of all terms of a block
-pub all-low : (catalogue : CatalogDef) (block : Block) → ((term : Term) → top_of catalogue block term ≤ (predicate_at catalogue term.predicate).max) → HasLowTops catalogue block
-all-low catalogue block low = each block.terms where
-  each : (terms : List Term) → AllByRecursion (λ (t : Term). top_of catalogue block t ≤ (predicate_at catalogue t.predicate).max) terms
-  each [] = tt
-  each (term ∷ terms) = (low term, each terms)
 
 -- a mask is inside itself
 pub own-inside : (mask : ℕ) → is_inside mask mask ≡ true
@@ -311,3 +306,20 @@ bounded-before answer old new query grows is bounded number rows term there has 
     let row_last = here.1 in
     (omega arith, omega arith) in
     subst (λ worth. worth ≤ term.max) (worth-grows old new grows block rows term.entries has answer term formed (own-inside term.entries)) (bounded number rows term there more)
+
+-- where the indexes hold the answers, the top by an index is its first score
+pub top-first : (answer : Answering) (catalogue : CatalogDef) → IndexesHold answer catalogue
+    → ((a : Answering) (predicate : PredicateDef) (args : List BoundArg) (rows : List (List Value)) (ranking : List ScoredRow)
+    → (making_of a predicate args rows).outcome ≡ Ok ranking → IsRanking (length rows) predicate.max ranking)
+    → (table predicate : ℕ) (args : List BoundArg) (entry index : ℕ) → index_of table predicate args entry catalogue ≡ Some index
+    → top_by catalogue predicate (Some index) ≡ first_score (ranking_at catalogue index)
+top-first answer catalogue holds rankings table predicate args entry index first =
+    let is_for = index-for catalogue table predicate args entry index first in
+    let found = is_for.found in
+    let made = each-slice_get (IndexHolds answer catalogue) catalogue.indexes index found holds is_for.there in
+    let rows = rows_for catalogue found.def in
+    let low = first_score-low (length rows) (predicate_for catalogue found.def).max found.ranking
+    (rankings answer (predicate_for catalogue found.def) found.def.args rows found.ranking made.holds) in
+    let ranking = ap (λ (o : Option RankIndex). first_score (unwrap_or (option_map (λ (i : RankIndex). i.ranking) o) [])) is_for.there in
+    let own : (predicate_for catalogue found.def).max ≡ (predicate_at catalogue predicate).max = ap (λ n. (predicate_at catalogue n).max) is_for.predicate_is in
+    omega arith

@@ -214,4 +214,6 @@ module _ (answer : Answering) (catalogue : CatalogDef) (block : Block) (rows : L
               let at : i ≡ 1 + i - 1 = omega arith in
               let within = slice_get_within block.from i from there in
               let own : has_number term.entries (1 + i) ≡ true = ap (λ mask. has_number mask (1 + i)) (alone ∙ sym (or_zero_l (mask_of (1 + i)))) ∙ has-own 0 (1 + i) in
-              worth-first (1 + i) from (subst (λ n. slice_get block.from n ≡ Some from) at there) (has (1 + i) (omega arith) (omega arith) own) term index first holds
+              let most = worth-first (1 + i) from (subst (λ n. slice_get block.from n ≡ Some from) at there) (has (1 + i) (omega arith) (omega arith) own) term index first holds in
+              let low = greatest in
+              omega arith

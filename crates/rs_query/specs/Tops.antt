@@ -1,5 +1,5 @@
 -- The tops of terms: the most that a term is worth by its rank index, and the greatest score of its predicate where it has none.
-use Rattle.std.specs.Prelude.{ℕ, ◌+◌, ◌≡◌, ◌≤◌, ◌==◌, max, List, [], ◌∷◌, map, Option, Some, None, if◌then◌else◌}
+use Rattle.std.specs.Prelude.{ℕ, ◌+◌, ◌≡◌, ◌≤◌, ◌==◌, max, min, List, [], ◌∷◌, map, Option, Some, None, if◌then◌else◌}
 use Rattle.rs_order.specs.Climbing.{In}
 use Rattle.rs_rank.specs.Masks.{mask_of}
 use Rattle.rs_rank.specs.declared.scored_row.ScoredRow.{ScoredRow}
@@ -19,10 +19,11 @@ abbrev pub first_score : List ScoredRow → ℕ
 first_score [] = 0
 first_score (entry ∷ rest) = entry.score
 
--- the first score of an index of a predicate, and the predicate's greatest score where there is no index
+-- the first score of an index of a predicate, and the predicate's greatest score where there is no index. No score of an index passes
+-- that greatest one: `min` says so of any catalogue
 abbrev pub top_by : CatalogDef → ℕ → Option ℕ → ℕ
 top_by catalogue predicate None = (predicate_at catalogue predicate).max
-top_by catalogue predicate (Some index) = first_score (ranking_at catalogue index)
+top_by catalogue predicate (Some index) = min (first_score (ranking_at catalogue index)) (predicate_at catalogue predicate).max
 
 -- the same of a term, where the FROM entries from this number on are these: a term that speaks of one of them alone has an index
 -- where the entry's table has one for it

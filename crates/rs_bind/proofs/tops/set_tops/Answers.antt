@@ -1,9 +1,9 @@
-use Rattle.std.proofs.Common.{◌≡◌, ◌∙◌, ◌<◌, ◌≤◌, max, length, get_or, set, sym, ap, ap₂, arith}
+use Rattle.std.proofs.Common.{◌≡◌, ◌∙◌, ◌<◌, max, length, get_or, set, sym, ap, ap₂, arith}
 use Rattle.std.proofs.lemmas.List.{take_all}
-use Rattle.rs_query.specs.Answers.{padded, predicate_at}
+use Rattle.rs_query.specs.Answers.{padded}
 use Rattle.rs_query.specs.Tops.{set_tops, top_of}
 use Rattle.rs_query.specs.declared.term.Term.{Term}
-use Rattle.rs_bind.proofs.TopFacts.{each-more, greater-at, length-greater_of, padded-more}
+use Rattle.rs_bind.proofs.TopFacts.{greater-at, length-greater_of, padded-more}
 use Rattle.rs_bind.proofs.tops.set_tops.Goals as goal
 
 pub loop-place-preserved : goal.loop-place-preserved
@@ -23,24 +23,18 @@ loop-place-preserved c =
     let inside : place < length right.terms = omega arith in
     let few = c.requires.left.most_terms in
     let count : length (set_tops catalogue left right) ≡ length left.terms = length-greater_of (top_of catalogue left) (top_of catalogue right) left.terms right.terms same in
-    let value : c.greater.result ≡ max (top_of catalogue left own) (top_of catalogue right other) = c.greater.ensures ∙ ap₂ max c.top_of-own.ensures.value c.top_of-other.ensures.value in
-    record {
-      tops = ap (λ ts. set ts place c.greater.result) c.loop-place.invariant.tops
-          ∙ padded-more 8 (set_tops catalogue left right) place c.greater.result (omega arith) (omega arith)
-          (value ∙ greater-at (top_of catalogue left) (top_of catalogue right) left.terms right.terms place own other within inside own_is other_is
-          ∙ ap (λ d. get_or (set_tops catalogue left right) place d) (sym value));
-      left_low = each-more (λ (t : Term). top_of catalogue left t ≤ (predicate_at catalogue t.predicate).max) left.terms place own within own_is c.loop-place.invariant.left_low
-          (let low = c.top_of-own.ensures.low in let is = c.top_of-own.ensures.value in omega arith);
-      right_low = each-more (λ (t : Term). top_of catalogue right t ≤ (predicate_at catalogue t.predicate).max) right.terms place other inside other_is c.loop-place.invariant.right_low
-          (let low = c.top_of-other.ensures.low in let is = c.top_of-other.ensures.value in omega arith);
-    }
+    let value : c.greater.result ≡ max (top_of catalogue left own) (top_of catalogue right other) = c.greater.ensures ∙ ap₂ max c.top_of-own.ensures c.top_of-other.ensures in
+    ap (λ ts. set ts place c.greater.result) c.loop-place.invariant
+    ∙ padded-more 8 (set_tops catalogue left right) place c.greater.result (omega arith) (omega arith)
+    (value ∙ greater-at (top_of catalogue left) (top_of catalogue right) left.terms right.terms place own other within inside own_is other_is
+    ∙ ap (λ d. get_or (set_tops catalogue left right) place d) (sym value))
 
-pub returns-clause-value : goal.returns-clause-value
-returns-clause-value c =
+pub returns : goal.returns
+returns c =
     let catalogue = c.args.catalog.now in
     let left = c.args.left.now in
     let right = c.args.right.now in
     let count : length (set_tops catalogue left right) ≡ length left.terms = length-greater_of (top_of catalogue left) (top_of catalogue right) left.terms right.terms c.requires.same in
     let len = c.len-place-end.ensures in
     let test = c.loop-place-test.false in
-    c.loop-place.invariant.tops ∙ ap (padded 8) (take_all c.loop-place.place (set_tops catalogue left right) (omega arith))
+    c.loop-place.invariant ∙ ap (padded 8) (take_all c.loop-place.place (set_tops catalogue left right) (omega arith))

@@ -1,9 +1,8 @@
-use Rattle.std.proofs.Common.{◌≡◌, ◌∙◌, ◌<◌, ◌≤◌, length, get_or, map, set, sym, ap, arith}
+use Rattle.std.proofs.Common.{◌≡◌, ◌∙◌, ◌<◌, length, get_or, set, sym, ap, arith}
 use Rattle.std.proofs.lemmas.List.{length-map}
-use Rattle.rs_query.specs.Answers.{predicate_at}
 use Rattle.rs_query.specs.Tops.{top_of, tops_of}
 use Rattle.rs_query.specs.declared.term.Term.{Term}
-use Rattle.rs_bind.proofs.TopFacts.{each-more, padded-more, top-at}
+use Rattle.rs_bind.proofs.TopFacts.{padded-more, top-at}
 use Rattle.rs_bind.proofs.tops.tops_of.Goals as goal
 
 pub loop-place-preserved : goal.loop-place-preserved
@@ -18,11 +17,7 @@ loop-place-preserved c =
     let within : place < length block.terms = omega arith in
     let few = c.requires.most_terms in
     let count : length (tops_of catalogue block) ≡ length block.terms = length-map block.terms (top_of catalogue block) in
-    let value = c.top_of.ensures.value in
-    record {
-      tops = ap (λ ts. set ts place c.top_of.result) c.loop-place.invariant.tops
-          ∙ padded-more 8 (tops_of catalogue block) place c.top_of.result (omega arith) (omega arith)
-          (value ∙ top-at (top_of catalogue block) block.terms place term within is ∙ ap (λ d. get_or (tops_of catalogue block) place d) (sym value));
-      low = each-more (λ (t : Term). top_of catalogue block t ≤ (predicate_at catalogue t.predicate).max) block.terms place term within is c.loop-place.invariant.low
-          (let low = c.top_of.ensures.low in let is = c.top_of.ensures.value in omega arith);
-    }
+    let value = c.top_of.ensures in
+    ap (λ ts. set ts place c.top_of.result) c.loop-place.invariant
+    ∙ padded-more 8 (tops_of catalogue block) place c.top_of.result (omega arith) (omega arith)
+    (value ∙ top-at (top_of catalogue block) block.terms place term within is ∙ ap (λ d. get_or (tops_of catalogue block) place d) (sym value))

@@ -11,35 +11,35 @@ set_tops-tops-requires-clause-same c =
 pub returns-in-One-clause-value : goal.returns-in-One-clause-value
 returns-in-One-clause-value c =
     let made = one-bounded c.args.catalog.now c.args.query c.in-One.block c.bounded_by.result c.in-One.limit c.tops_of-tops.result c.in-One.is c.requires
-    c.tops_of-tops.ensures.value c.tops_of-tops.ensures.low c.bounded_by.ensures in
+    c.tops_of-tops.ensures c.bounded_by.ensures in
     made.value
 
 pub returns-in-One-clause-formed : goal.returns-in-One-clause-formed
 returns-in-One-clause-formed c =
     let made = one-bounded c.args.catalog.now c.args.query c.in-One.block c.bounded_by.result c.in-One.limit c.tops_of-tops.result c.in-One.is c.requires
-    c.tops_of-tops.ensures.value c.tops_of-tops.ensures.low c.bounded_by.ensures in
+    c.tops_of-tops.ensures c.bounded_by.ensures in
     made.formed
 
 pub returns-in-One-clause-tops : goal.returns-in-One-clause-tops
 returns-in-One-clause-tops c =
     let made = one-bounded c.args.catalog.now c.args.query c.in-One.block c.bounded_by.result c.in-One.limit c.tops_of-tops.result c.in-One.is c.requires
-    c.tops_of-tops.ensures.value c.tops_of-tops.ensures.low c.bounded_by.ensures in
+    c.tops_of-tops.ensures c.bounded_by.ensures in
     made.tops
 
 pub returns-in-Set-clause-value : goal.returns-in-Set-clause-value
 returns-in-Set-clause-value c =
     let made = set-bounded c.args.catalog.now c.args.query c.in-Set.op c.in-Set.left c.in-Set.right c.bounded_by-in-Set.result c.bounded_by-in-Set-2.result c.in-Set.limit c.set_tops-tops.result c.in-Set.is c.requires
-    c.set_tops-tops.ensures.value c.set_tops-tops.ensures.left_low c.set_tops-tops.ensures.right_low c.bounded_by-in-Set.ensures c.bounded_by-in-Set-2.ensures in
+    c.set_tops-tops.ensures c.bounded_by-in-Set.ensures c.bounded_by-in-Set-2.ensures in
     made.value
 
 pub returns-in-Set-clause-formed : goal.returns-in-Set-clause-formed
 returns-in-Set-clause-formed c =
     let made = set-bounded c.args.catalog.now c.args.query c.in-Set.op c.in-Set.left c.in-Set.right c.bounded_by-in-Set.result c.bounded_by-in-Set-2.result c.in-Set.limit c.set_tops-tops.result c.in-Set.is c.requires
-    c.set_tops-tops.ensures.value c.set_tops-tops.ensures.left_low c.set_tops-tops.ensures.right_low c.bounded_by-in-Set.ensures c.bounded_by-in-Set-2.ensures in
+    c.set_tops-tops.ensures c.bounded_by-in-Set.ensures c.bounded_by-in-Set-2.ensures in
     made.formed
 
 pub returns-in-Set-clause-tops : goal.returns-in-Set-clause-tops
 returns-in-Set-clause-tops c =
     let made = set-bounded c.args.catalog.now c.args.query c.in-Set.op c.in-Set.left c.in-Set.right c.bounded_by-in-Set.result c.bounded_by-in-Set-2.result c.in-Set.limit c.set_tops-tops.result c.in-Set.is c.requires
-    c.set_tops-tops.ensures.value c.set_tops-tops.ensures.left_low c.set_tops-tops.ensures.right_low c.bounded_by-in-Set.ensures c.bounded_by-in-Set-2.ensures in
+    c.set_tops-tops.ensures c.bounded_by-in-Set.ensures c.bounded_by-in-Set-2.ensures in
     made.tops
