@@ -570,8 +570,8 @@ module _ (catalogue : CatalogDef) where
   pub queries_bound_by_rules : (query : syntax.Query) (made : Query) → (bound_query catalogue query ≡ Ok made) ↔ ((typed : Query) × TypesQuery catalogue query typed × (with_tops catalogue typed ≡ made))
   queries_bound_by_rules query made = (
     λ h.
-      let step = Ok-steps (typed_query catalogue query) (λ typed. well (with_tops catalogue typed)) made h in
-      (step.0, query-typed query step.0 step.1, same_Ok (with_tops catalogue step.0) made step.2),
+        let step = Ok-steps (typed_query catalogue query) (λ typed. well (with_tops catalogue typed)) made h in
+        (step.0, query-typed query step.0 step.1, same_Ok (with_tops catalogue step.0) made step.2),
     λ h. ap (λ r. r >>= λ typed. well (with_tops catalogue typed)) (query-is query h.0 h.1) ∙ ap well h.2,
   )
 

@@ -205,6 +205,7 @@ module _ (answer : Answering) (catalogue : CatalogDef) (block : Block) (rows : L
       top-by_cases (λ most. worth_of answer catalogue block rows term ≤ most) catalogue term 1 block.from greatest by_index where
         greatest : worth_of answer catalogue block rows term ≤ (predicate_at catalogue term.predicate).max
         greatest = clamped-most (predicate_at catalogue term.predicate).max (scorer_answer answer catalogue block rows term)
+
         by_index : (i : ℕ) (from : ℕ × List ℕ) → slice_get block.from i ≡ Some from → term.entries ≡ mask_of (1 + i)
             → worth_of answer catalogue block rows term ≤ top_by catalogue term.predicate (index_of from.0 term.predicate term.args (1 + i) catalogue)
         by_index i from there alone = go (index_of from.0 term.predicate term.args (1 + i) catalogue) refl where
