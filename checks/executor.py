@@ -18,8 +18,12 @@ import dataclasses
 import functools
 import itertools
 import operator
+import os
 import random
 from dataclasses import dataclass
+
+# With TOPS=1 in the environment a term that has a rank index is bounded by the first score of the index, else by its MAX.
+BY_TOPS = os.environ.get("TOPS") == "1"
 
 KINDS = "NH"  # the letters of the joins
 SET_OPERATORS = ("UNION ALL", "UNION", "INTERSECT", "EXCEPT")
@@ -157,6 +161,19 @@ class Query(Executed):
     number: int = 1  # of the block
     outputs: list = None  # columns; None is all of them
     distinct: bool = False
+    tops: list = None  # the most that each term can give, where it isn't evaluated; None is its MAX
+
+    def bind(self, indexes):
+        """Takes the tops of the terms from the indexes that there are."""
+        self.tops = [self.top(term, indexes) for term in self.terms] if BY_TOPS else None
+
+    def top(self, term, indexes):
+        """The first score of the index of a term, or 0 where it is empty; MAX where it has no index or several entries."""
+        for predicate, table, letter in indexes:
+            for entry, own in enumerate(self.tables, 1):
+                if (term.predicate, term.columns, own) == (predicate, [(entry, letter)], table):
+                    return max((predicate.answer(row[table.columns.index(letter)]) for row in table.rows), default=0)
+        return term.predicate.most
 
     def values(self, columns, row):
         """The values of some columns in a row."""
@@ -173,8 +190,9 @@ class Query(Executed):
 
     def key(self, terms, row):
         """The key of a row where terms of these numbers are evaluated. A lesser key comes before a greater one."""
-        pairs = enumerate(self.terms, 1)
-        bounds = [term.weight * (self.worth(term, row) if number in terms else term.predicate.most) for number, term in pairs]
+        tops = self.tops or [term.predicate.most for term in self.terms]
+        pairs = enumerate(zip(self.terms, tops), 1)
+        bounds = [term.weight * (self.worth(term, row) if number in terms else top) for number, (term, top) in pairs]
         return -sum(bounds), row
 
     def combinations(self, entries):
@@ -217,7 +235,7 @@ class Query(Executed):
 
     def drawn(self, scan, asks):
         """How far a scan drew: to the place of the last row that it gave, in the table or the index, or else to the end."""
-        source = Query(self.tables, [], self.terms).rows(scan)
+        source = Query(self.tables, [], self.terms, tops=self.tops).rows(scan)
         last = self.rows(scan)[asks - 1 : asks]
         return 0 if asks == 0 else source.index(last[0]) + 1 if last else len(source)
 
@@ -262,6 +280,13 @@ class SetQuery(Executed):
 
     def __post_init__(self):
         self.terms = self.left.terms
+
+    def bind(self, indexes):
+        """The tops of both blocks are the greater ones."""
+        for block in (self.left, self.right):
+            block.bind(indexes)
+        if BY_TOPS:
+            self.left.tops = self.right.tops = list(map(max, self.left.tops, self.right.tops))
 
     def of(self, number):
         """The block of this number."""
@@ -388,10 +413,12 @@ class Script:
         return [plan for plan in self.parts(query, shape) if plan.drops == query.distinct]
 
     def plans(self, query, shape):
+        query.bind(self.indexes)
         return [plan for plan in self.complete(query, shape) if len(plan.terms) == len(query.terms)]
 
     def set_plans(self, query, *shapes):
         """All plans of a set query whose sides have these shapes."""
+        query.bind(self.indexes)
         sides = (self.complete(block, shape) for block, shape in zip((query.left, query.right), shapes))
         pairs = [pair for pair in itertools.product(*sides) if pair[0].terms == pair[1].terms]
         plans = itertools.chain.from_iterable(above(query, combined(*pair)) for pair in pairs)

@@ -15,8 +15,12 @@ crates/cases_plans/stdout. This makes them anew, at the top of the repository:
 import functools
 import itertools
 import operator
+import os
 import random
 from dataclasses import dataclass
+
+# With TOPS=1 in the environment a term that has a rank index is bounded by the first score of the index, else by its MAX.
+BY_TOPS = os.environ.get("TOPS") == "1"
 
 ALIASES = "abcdef"
 COSTS = {"p": 1, "q": 20, "near": 3}
@@ -120,12 +124,25 @@ class Block:
         self.outputs, self.distinct = outputs, distinct
         self.entries = frozenset(range(1, len(names) + 1))
         self.numbers = frozenset(range(1, len(terms) + 1))
+        self.tops = [self.top(term) for term in terms]
         scores = sorted((self.bound(rows, self.numbers) for rows in self.combinations(self.entries)), reverse=True)
         wanted = max(1, 10 if limit is None else limit)
         self.cutoff = scores[wanted - 1] if wanted <= len(scores) else 0
 
     def table(self, entry):
         return self.tables[self.names[entry - 1]]
+
+    def is_indexed(self, entry, term):
+        """Whether a term speaks of an entry alone, whose table has an index for it."""
+        columns = tuple(column for _, column in term.columns)
+        return term.entries() == {entry} and (self.names[entry - 1], term.predicate, columns) in self.indexes
+
+    def top(self, term):
+        """The first score of the index of a term, or 0 where it is empty; MAX where it has no index or several entries."""
+        for entry in self.entries if BY_TOPS else ():
+            if self.is_indexed(entry, term):
+                return max((term.worth({entry: row}) for row in self.table(entry)), default=0)
+        return MOST
 
     def combinations(self, entries, satisfied=True):
         """The rows of some entries that satisfy all that speaks of these entries alone."""
@@ -137,8 +154,8 @@ class Block:
 
     def bound(self, rows, evaluated):
         """The most that the terms can give, where these are evaluated."""
-        pairs = enumerate(self.terms, 1)
-        return sum(term.weight * (term.worth(rows) if number in evaluated else MOST) for number, term in pairs)
+        pairs = enumerate(zip(self.terms, self.tops), 1)
+        return sum(term.weight * (term.worth(rows) if number in evaluated else top) for number, (term, top) in pairs)
 
     @functools.cache
     def estimate(self, entries, evaluated, satisfied=True):
@@ -174,9 +191,7 @@ class Block:
             yield Node("SeqScan", entries, evaluated)
             return
         (number,), (entry,) = evaluated, entries
-        term = self.terms[number - 1]
-        columns = tuple(column for _, column in term.columns)
-        if term.entries() == entries and (self.names[entry - 1], term.predicate, columns) in self.indexes:
+        if self.is_indexed(entry, self.terms[number - 1]):
             yield Node("RankScan", entries, evaluated, number)
 
     def operators(self, entries, evaluated):
@@ -265,6 +280,8 @@ class Pair:
     def __init__(self, operator_words, left, right):
         self.words, self.left, self.right = operator_words, left, right
         self.entries, self.numbers, self.terms = left.entries, left.numbers, left.terms
+        # The tops of both blocks are the greater ones.
+        left.tops = right.tops = list(map(max, left.tops, right.tops))
 
     def rows_of(self, node):
         return sum(block.estimate(block.entries, node.terms) for block in (self.left, self.right))

@@ -282,6 +282,7 @@ module _ {catalogue : CatalogDef} {query : Query} {number : ℕ} {tree : PlanTre
           number_is = held.number_is;
           part = held.part;
           indexes = held.indexes;
+          bounded = can.bounded;
           weights = can.weights;
           more = omega arith;
           tables = can.tables;
