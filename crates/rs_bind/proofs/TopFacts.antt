@@ -1,17 +1,14 @@
 -- Maxima put on terms one by one, and numbers kept in a list of eight.
-use Rattle.std.proofs.Common.{ℕ, zero, suc, ◌≡◌, ◌∙◌, ◌+◌, ◌<◌, ◌≤◌, ◌++◌, max, Bool, true, false, cond, eqb, List, [], ◌∷◌, length, get_or, map, set, take, refl, sym, ap, ap₂, subst, arith}
+use Rattle.std.proofs.Common.{ℕ, zero, suc, ◌≡◌, ◌∙◌, ◌+◌, ◌<◌, ◌≤◌, ◌++◌, max, List, [], ◌∷◌, length, get_or, map, set, take, refl, sym, ap, ap₂, subst, arith}
 use Rattle.std.specs.Prelude.{Option, Some, option_map, slice_get}
-use Rattle.std.specs.List.{AllByRecursion}
 use Rattle.std.proofs.lemmas.List.{length-map, length-take-le, take_more}
 use Rattle.rs_value.specs.declared.set_op.SetOp.{SetOp}
-use Rattle.rs_order.proofs.EachFacts.{each-push}
 use Rattle.rs_catalog.specs.Catalog.{CatalogDef, RankIndex}
 use Rattle.rs_catalog.specs.Indexes.{index_of, predicate_for}
 use Rattle.rs_catalog.specs.declared.index.BoundArg.{BoundArg}
 use Rattle.rs_catalog.specs.declared.index.IndexDef.{IndexDef}
 use Rattle.rs_catalog.proofs.IndexForFacts.{index-for}
 use Rattle.rs_query.specs.Answers.{padded, predicate_at}
-use Rattle.rs_query.specs.Blocks.{block_in}
 use Rattle.rs_query.specs.Tops.{HasTops, bounded_by, greater_of, set_tops, top_of, tops_of, with_maxima, with_tops}
 use Rattle.rs_query.specs.WellFormed.{AreSameTerms, IsQuery}
 use Rattle.rs_query.specs.declared.block.Block.{Block}

@@ -1,4 +1,4 @@
-use Rattle.std.proofs.Common.{◌≡◌, ◌∙◌, ◌≤◌, min, ap, arith}
+use Rattle.std.proofs.Common.{◌≡◌, ◌≤◌, min, arith}
 use Rattle.rs_catalog.specs.Indexes.{ranking_at}
 use Rattle.rs_query.specs.Answers.{predicate_at}
 use Rattle.rs_query.specs.Tops.{first_score}

@@ -1,5 +1,4 @@
-use Rattle.std.proofs.Common.{◌≡◌, ◌∙◌, ◌<◌, length, get_or, set, take, ap, arith}
-use Rattle.rs_query.specs.Tops.{with_maxima}
+use Rattle.std.proofs.Common.{◌≡◌, ◌∙◌, ◌<◌, length, get_or, set, ap, arith}
 use Rattle.rs_query.specs.declared.term.Term.{Term}
 use Rattle.rs_bind.proofs.TopFacts.{with_maxima-more}
 use Rattle.rs_bind.proofs.tops.with_maxima.Goals as goal
