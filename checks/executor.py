@@ -18,12 +18,8 @@ import dataclasses
 import functools
 import itertools
 import operator
-import os
 import random
 from dataclasses import dataclass
-
-# With TOPS=1 in the environment a term that has a rank index is bounded by the first score of the index, else by its MAX.
-BY_TOPS = os.environ.get("TOPS") == "1"
 
 KINDS = "NH"  # the letters of the joins
 SET_OPERATORS = ("UNION ALL", "UNION", "INTERSECT", "EXCEPT")
@@ -161,11 +157,11 @@ class Query(Executed):
     number: int = 1  # of the block
     outputs: list = None  # columns; None is all of them
     distinct: bool = False
-    tops: list = None  # the most that each term can give, where it isn't evaluated; None is its MAX
+    tops: list = None  # the most that each term can give where it isn't evaluated, as `bind` finds it
 
     def bind(self, indexes):
         """Takes the tops of the terms from the indexes that there are."""
-        self.tops = [self.top(term, indexes) for term in self.terms] if BY_TOPS else None
+        self.tops = [self.top(term, indexes) for term in self.terms]
 
     def top(self, term, indexes):
         """The first score of the index of a term, or 0 where it is empty; MAX where it has no index or several entries."""
@@ -190,8 +186,7 @@ class Query(Executed):
 
     def key(self, terms, row):
         """The key of a row where terms of these numbers are evaluated. A lesser key comes before a greater one."""
-        tops = self.tops or [term.predicate.most for term in self.terms]
-        pairs = enumerate(zip(self.terms, tops), 1)
+        pairs = enumerate(zip(self.terms, self.tops), 1)
         bounds = [term.weight * (self.worth(term, row) if number in terms else top) for number, (term, top) in pairs]
         return -sum(bounds), row
 
@@ -285,8 +280,7 @@ class SetQuery(Executed):
         """The tops of both blocks are the greater ones."""
         for block in (self.left, self.right):
             block.bind(indexes)
-        if BY_TOPS:
-            self.left.tops = self.right.tops = list(map(max, self.left.tops, self.right.tops))
+        self.left.tops = self.right.tops = list(map(max, self.left.tops, self.right.tops))
 
     def of(self, number):
         """The block of this number."""

@@ -15,12 +15,8 @@ crates/cases_plans/stdout. This makes them anew, at the top of the repository:
 import functools
 import itertools
 import operator
-import os
 import random
 from dataclasses import dataclass
-
-# With TOPS=1 in the environment a term that has a rank index is bounded by the first score of the index, else by its MAX.
-BY_TOPS = os.environ.get("TOPS") == "1"
 
 ALIASES = "abcdef"
 COSTS = {"p": 1, "q": 20, "near": 3}
@@ -139,7 +135,7 @@ class Block:
 
     def top(self, term):
         """The first score of the index of a term, or 0 where it is empty; MAX where it has no index or several entries."""
-        for entry in self.entries if BY_TOPS else ():
+        for entry in self.entries:
             if self.is_indexed(entry, term):
                 return max((term.worth({entry: row}) for row in self.table(entry)), default=0)
         return MOST
