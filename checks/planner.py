@@ -15,12 +15,8 @@ crates/cases_plans/stdout. This makes them anew, at the top of the repository:
 import functools
 import itertools
 import operator
-import os
 import random
 from dataclasses import dataclass
-
-# With TOPS=1 in the environment a term that has a rank index is bounded by the first score of the index, else by its MAX.
-BY_TOPS = os.environ.get("TOPS") == "1"
 
 ALIASES = "abcdef"
 COSTS = {"p": 1, "q": 20, "near": 3}
@@ -139,7 +135,7 @@ class Block:
 
     def top(self, term):
         """The first score of the index of a term, or 0 where it is empty; MAX where it has no index or several entries."""
-        for entry in self.entries if BY_TOPS else ():
+        for entry in self.entries:
             if self.is_indexed(entry, term):
                 return max((term.worth({entry: row}) for row in self.table(entry)), default=0)
         return MOST
@@ -393,9 +389,9 @@ def random_conjuncts(chance, count):
         yield Conjunct((1, "x"), "<", (2, "y"))
 
 
-def random_table(chance, sizes=(0, 1, 3, 6, 8, 9, 10, 10, 12, 12)):
+def random_table(chance, sizes=(0, 1, 3, 6, 8, 9, 10, 10, 12, 12), most=MOST):
     size = chance.choice(sizes)
-    return [{"x": chance.randint(0, MOST), "y": chance.randint(0, MOST), "k": chance.randint(0, 2)} for _ in range(size)]
+    return [{"x": chance.randint(0, most), "y": chance.randint(0, most), "k": chance.randint(0, 2)} for _ in range(size)]
 
 
 def random_indexes(chance):
@@ -445,11 +441,10 @@ def random_pair(chance, tables, indexes):
     return Pair(chance.choice(list(OPERATORS)), *sides)
 
 
-def main():
-    print("# Random tables, and the least plans of queries of one to three entries and terms: see checks/planner.py.")
-    chance = random.Random(4)
-    for _ in range(13):
-        tables, indexes = {name: random_table(chance) for name in "tu"}, random_indexes(chance)
+def tell_queries(chance, count, most=MOST):
+    """Queries of each kind, over so many pairs of tables whose numbers are no greater than this."""
+    for _ in range(count):
+        tables, indexes = {name: random_table(chance, most=most) for name in "tu"}, random_indexes(chance)
         print("front\nfront", front(tables, indexes))
         for number, make in enumerate([random_block] * 4 + [random_distinct, random_pair]):
             query = make(chance, tables, indexes)
@@ -457,12 +452,20 @@ def main():
             print(case(seed, query))
             if number in (0, 4, 5):
                 print(costs_case(seed, query, list(all_costs(query))))
+
+
+def main():
+    print("# Random tables, and the least plans of queries of one to three entries and terms: see checks/planner.py.")
+    chance = random.Random(4)
+    tell_queries(chance, 13)
     print("# Queries of six entries and eight terms, over tables of two or three rows.")
     for _ in range(3):
         tables, indexes = {name: random_table(chance, [2, 2, 3]) for name in "tu"}, random_indexes(chance)
         print("front\nfront", front(tables, indexes))
         query = wide_block(chance, tables, indexes)
         print(costs_case(chance.randint(0, 9), query, some_costs(chance, query)))
+    print("# Rank indexes whose first scores lie far below MAX.")
+    tell_queries(chance, 6, most=3)
 
 
 main()

@@ -7,11 +7,7 @@ over finished lists: there is no queue and no threshold here. It serves runs.py.
 import functools
 import itertools
 import math
-import os
 import re
-
-# With TOPS=1 in the environment a term that has a rank index is bounded by the first score of the index, else by its MAX.
-BY_TOPS = os.environ.get("TOPS") == "1"
 
 SAMPLE_SIZES = [256, 64, 24, 12, 8, 6]
 
@@ -313,7 +309,7 @@ class Block:
         """The first score of the index of a term, as it is now, or 0 where it is empty; MAX where the term has no index or several
         entries. A scorer answers the same to each call."""
         entries = self.terms[term][3]
-        if not BY_TOPS or len(entries) != 1:
+        if len(entries) != 1:
             return self.most(term)
         (entry,) = entries
         if self.key_of_index(entry, term) not in self.indexes:
