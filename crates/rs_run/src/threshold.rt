@@ -99,10 +99,12 @@ fn scan_statements<T: TableReader, W: Host>(
 {
     let mut catalog = Catalog::new(alloc);
     for (index, statement) in statements.iter().enumerate() {
-        let done = scan_statement(alloc, index + 1, statement, &mut catalog, tables, host);
-        if let Err(fault) = done {
-            release(catalog, Session::new(alloc));
-            return Err(fault);
+        match scan_statement(alloc, index + 1, statement, &mut catalog, tables, host) {
+            Ok(()) => {}
+            Err(fault) => {
+                release(catalog, Session::new(alloc));
+                return Err(fault);
+            }
         }
     }
     release(catalog, Session::new(alloc));
