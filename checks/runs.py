@@ -16,6 +16,10 @@ sample, and behind these, and how many of the last come before the first row.
 With the word `gen`, a number and a number of rows it prints what that word does.
 
     python3 checks/runs.py gen 7 600
+
+With the word `ta` and a script it prints what that word does in the current folder.
+
+    python3 checks/runs.py ta examples/films/threshold.sql
 """
 
 import csv
@@ -600,6 +604,10 @@ if __name__ == "__main__":
         generated_run = Generated(int(sys.argv[2]), int(sys.argv[3]), {}, {})
         generated_run.statements(generated_run.files["gen.sql"])
         print(generated_run.put, end="")
+    elif len(sys.argv) == 3 and sys.argv[1] == "ta":
+        scans = Scans(Folder(), {}, {})
+        scans.script(sys.argv[2])
+        print(scans.put, end="")
     elif len(sys.argv) == 3:
         tell(sys.argv[1], int(sys.argv[2]))
     else:
