@@ -288,7 +288,8 @@ fn put_scanned_rows<O: Sink>(
     let _ = lists.lists();
     let mut lines = RowLines::new(alloc);
     for given in 0..most_asks(limit) {
-        match scan.next(test, lists)? {
+        let found = scan.next(test, lists)?;
+        match found {
             Some(row) => {
                 put_scanned_row(alloc, &mut lines, given + 1, block, catalog, row, out)?;
             }
