@@ -1,6 +1,9 @@
 pub mod Worked
+pub mod WorkedScans
 pub mod EachFacts
 pub mod RunFacts
+pub mod ScanFacts
+pub mod ScanSteps
 pub mod GeneratedFacts
 pub mod RowFacts
 pub mod TextFacts
