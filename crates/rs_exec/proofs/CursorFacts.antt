@@ -1,5 +1,5 @@
 -- A cursor over the nodes of its plan.
-use Rattle.std.proofs.Common.{◌≡◌, ℕ, suc, ◌≤◌, false, inl, [], length, refl, sym, ap, subst, append-nil, arith}
+use Rattle.std.proofs.Common.{◌≡◌, ℕ, suc, ◌≤◌, false, [], length, refl, sym, ap, subst, append-nil, arith}
 use Rattle.std.specs.Prelude.{Option, Ok, Err, nat_lt, option_map, slice_get}
 use Rattle.std.specs.List.{AllByRecursion}
 use Rattle.std.proofs.lemmas.Bool.{ltb-false, or_parts}
@@ -13,7 +13,6 @@ use Rattle.rs_query.specs.Answers.{limit_of, weights_of}
 use Rattle.rs_query.specs.Tables.{sizes_of}
 use Rattle.rs_query.specs.WellFormed.{IsQuery}
 use Rattle.rs_query.specs.declared.query.Query.{Query}
-use Rattle.rs_query.specs.declared.query.Query.TheVariants.{One, Set}
 use Rattle.rs_query.proofs.QuestionFacts.{AllAsked-none, Gave-ok, Inquires-asked, Inquires-fault}
 use Rattle.rs_plan.specs.Calls.{questions_of_ask}
 use Rattle.rs_plan.specs.Lists.{World, list_of_plan}
@@ -62,7 +61,7 @@ cursor-start catalogue answer query tree root formed plan tables weights indexes
       bounded = bounded;
       tables = tables;
       weights = weights;
-      nodes = query-stands catalogue answer query tree root formed weights plan is;
+      nodes = query-stands catalogue answer query tree root formed (bounded-world catalogue answer query formed bounded) weights plan is;
       asks = omega arith;
     }
 

@@ -5,7 +5,7 @@ use Rattle.std.specs.List.{AllByRecursion, filter}
 use Rattle.std.specs.Prelude.{None, Some, not, slice_get}
 use Rattle.std.proofs.lemmas.Option.{slice_get_within}
 use Rattle.rs_order.proofs.ClimbingFacts.{AllByRecursion-In}
-use Rattle.rs_order.proofs.EachFacts.{each-append, each-filter, each-map, each-slice_get, each-weaker}
+use Rattle.rs_order.proofs.EachFacts.{each-map, each-slice_get, each-weaker}
 use Rattle.rs_order.proofs.ItemFacts.{In-map-back}
 use Rattle.rs_order.proofs.PartFacts.{In-slice_get}
 use Rattle.rs_order.proofs.SortingFacts.{In-sorted-back}
@@ -26,7 +26,6 @@ use Rattle.rs_query.specs.declared.query.Query.{Query}
 use Rattle.rs_query.specs.declared.query.Query.TheVariants.{One, Set}
 use Rattle.rs_query.specs.declared.term.Term.{Term}
 use Rattle.rs_query.proofs.EntryFacts.{items-inside, terms-inside}
-use Rattle.rs_query.proofs.RiseFacts.{each-firsts}
 use Rattle.rs_plan.specs.Lists.{World, key_under, list_of, numbered_block, row_under, sources}
 use Rattle.rs_query.specs.Blocks.{block_in}
 use Rattle.rs_plan.specs.Plans.{IsPart, IsPlan, IsRank, IsSetPlan}

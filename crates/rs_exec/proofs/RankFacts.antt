@@ -1,12 +1,11 @@
 -- A rank operator over its input: its list is the answers of its core, and its asks are the core's.
-use Rattle.std.proofs.Common.{◌≡◌, ◌∙◌, ℕ, zero, suc, ◌+◌, ◌-◌, ◌≤◌, Bool, true, false, cond, eqb, List, [], ◌∷◌, ◌++◌, length, map, drop, get_or, bit_or, refl, sym, ap, arith}
+use Rattle.std.proofs.Common.{◌≡◌, ◌∙◌, ℕ, zero, suc, ◌+◌, ◌-◌, ◌≤◌, Bool, true, false, cond, eqb, List, [], ◌∷◌, ◌++◌, length, map, drop, bit_or, refl, sym, ap, arith}
 use Rattle.std.proofs.lemmas.List.{length-map}
 use Rattle.std.proofs.lemmas.Option.{slice_get_within}
-use Rattle.std.specs.List.{AllByRecursion, filter}
+use Rattle.std.specs.List.{filter}
 use Rattle.rs_order.specs.Asks.{asks_for, comes_before_bar, bar_after}
 use Rattle.rs_order.specs.Schedule.{JoinSide, Left, SideAsk, asks_from, is_of_side}
 use Rattle.rs_order.specs.Sorting.{sorted}
-use Rattle.rs_order.proofs.EachFacts.{each-weaker}
 use Rattle.rs_order.proofs.PartFacts.{sorted-map}
 use Rattle.rs_order.proofs.SortingFacts.{sorted-sorted}
 use Rattle.rs_rank.specs.Keys.{key_cmp}

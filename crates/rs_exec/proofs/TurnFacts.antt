@@ -112,7 +112,7 @@ during-start catalogue query number tree a old can =
     let w = world_of catalogue old.answer query in
     let view = subst (λ (sizes : List ℕ). IsView sizes (sizes_of catalogue (block_in query number))) (sym (sizes-are catalogue old.answer query number can.number_is))
     (IsView-itself (sizes_of catalogue (block_in query number))) in
-    let on = asks-go_on w number tree a can.formed view can.part can.weights in
+    let on = asks-go_on w number tree a can.formed can.number_is can.bounded view can.part can.weights in
     record {
       more = [];
       rest = on.more;
