@@ -1,0 +1,3 @@
+pub mod RunFacts
+pub mod CallFacts
+pub mod FeedingFacts
