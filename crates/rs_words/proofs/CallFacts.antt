@@ -6,9 +6,10 @@ use Rattle.rs_feed_join.specs.declared.fault.JoinFault.{JoinFault}
 use Rattle.rs_feed_join.specs.declared.fault.JoinFault.TheVariants as join
 use Rattle.rs_feed_join.specs.declared.feed_pair.FeedPair.{FeedPair}
 use Rattle.rs_feed_join.specs.Answers.{Answers, Fails, HasDrawn, HasToldRefused, IsNext, answer_by, asks_of_cuts, is_refused, next_answer, number_of, up_to}
-use Rattle.rs_feed_join.specs.Cuts.{most_rows}
+use Rattle.rs_table_feed.specs.TableFeeds.{TableFeedState, table_feed_state}
+use Rattle.rs_feed_join.specs.Cuts.{HaveScores, most_rows}
 use Rattle.rs_feed_join.specs.Joins.{FeedJoinState, IsRefusal, side_in}
-use Rattle.rs_feed_join.specs.Sides.{FeedSide}
+use Rattle.rs_feed_join.specs.Sides.{FeedSide, IsDrawnOf}
 use Rattle.rs_order.specs.Last.{last_of}
 use Rattle.rs_order.specs.Schedule.{JoinSide, Left, Right, SideAsk, asked}
 use Rattle.rs_events.specs.Environment.{Environment}
@@ -16,7 +17,7 @@ use Rattle.rs_events.specs.Run.{Run, fails}
 use Rattle.rs_words.specs.declared.fault.WordFault.{WordFault}
 use Rattle.rs_words.specs.declared.fault.WordFault.TheVariants.{Memory}
 use Rattle.rs_words.specs.Feeding.{call_run}
-use Rattle.rs_words.specs.Joining.{IsOfTables, fault_of, join_fault}
+use Rattle.rs_words.specs.Joining.{IsDrawnOfTable, IsOfTables, fault_of, join_fault}
 
 -- where no item passes, all come
 up_to-all : {X : Type 0} (passes : X → Bool) (xs : List X) → find passes xs ≡ None → up_to passes xs ≡ xs
@@ -82,3 +83,16 @@ pub call-fails : (lefts rights : List FeedRow) (n : ℕ) (answer : Result (Optio
     → call_run lefts rights n answer more ≡ fails fault
 call-fails lefts rights n (Ok pair) more fault e = absurd cc
 call-fails lefts rights n (Err why) more fault e = ap fails (let same : join_fault why ≡ fault = cc in same)
+
+-- a feed keeps its rows, and stays drawn by the join
+pub rows-kept : (before after : List FeedRow) → ◌≡◌ {A = Option (List FeedRow)} (Some after) (Some before) → after ≡ before
+rows-kept before after e = cc
+
+pub drawn-after : (old new : TableFeedState) (side after : FeedSide) (broken : Bool) → IsDrawnOfTable old side → broken ≡ false → IsDrawnOf broken (table_feed_state new) after
+    → ◌≡◌ {A = Option (List FeedRow)} (Some new.rows) (Some old.rows) → IsDrawnOfTable new after
+drawn-after old new side after broken was unbroken drawn told =
+    let same = rows-kept old.rows new.rows told in record {
+      drawn = subst (λ b. IsDrawnOf b (table_feed_state new) after) unbroken drawn;
+      scores = subst (λ rows. HaveScores rows) (sym same) was.scores;
+      few = subst (λ rows. length rows ≤ most_rows) (sym same) was.few;
+    }
