@@ -19,25 +19,32 @@ use Rattle.rs_bind.specs.Indexes.{index_def_of}
 use Rattle.rs_bind.specs.Inserts.{insert_of}
 use Rattle.rs_bind.specs.Names.{columns_of}
 use Rattle.rs_events.specs.Events.{Event, Fetch, Finds, finds_in, found_in}
+use Rattle.rs_events.specs.Run as events
 use Rattle.rs_events.specs.Run.{behind, fails, fetch_then, with_fault}
+use Rattle.rs_events.specs.Sequence as events_in
 use Rattle.rs_events.specs.Sequence.{RunOf, RunsOn, still}
+use Rattle.rs_events.proofs.LoopFacts.{some-run}
 use Rattle.rs_statement.specs.Inserts.{insert_step}
 use Rattle.rs_statement.specs.Session.{DoesInSession, State, StatementsRun, beside_cursors, close_outcome, declare_step, fetch_step, nothing}
-use Rattle.rs_statement.specs.Statements.{DoesTable, analyze_step, explain_step, index_step, or_bind_fault, predicate_outcome, refused_or, select_step, table_step, with_room}
+use Rattle.rs_statement.specs.Statements.{Does, DoesTable, analyze_step, explain_step, index_step, or_bind_fault, predicate_outcome, refused_or, select_step, table_step, with_room}
 use Rattle.rs_statement.specs.Steps.{Run, Step}
 use Rattle.rs_statement.specs.declared.evaluating.Evaluating.{Evaluating}
-use Rattle.rs_statement.specs.declared.evaluating.Evaluating.TheVariants.{Planned}
+use Rattle.rs_statement.specs.declared.evaluating.Evaluating.TheVariants.{Plainly, Planned}
 use Rattle.rs_statement.specs.declared.sampling.Sampling.TheVariants.{ByScores}
 use Rattle.rs_statement.specs.declared.fault.Fault.{Fault}
 use Rattle.rs_statement.specs.declared.fault.Fault.TheVariants.{Script}
 use Rattle.rs_statement.specs.declared.script_fault.ScriptFault.TheVariants.{Lex, Parse}
 use Rattle.rs_run.specs.Faults.{WordsRun}
 use Rattle.rs_run.specs.Generated.{finds_generated, unfetched}
-use Rattle.rs_run.specs.Plain.{HasTokens, ScriptRuns, TextRuns, read, runs, source_of, unlexed, unparsed, unread}
-use Rattle.rs_run.specs.Running.{IsRun, IsRunOf, OfForm}
+use Rattle.rs_run.specs.Plain.{HasTokens, ScriptRuns, TextRuns, as_it_is, read, runs, source_of, unlexed, unparsed, unread}
+use Rattle.rs_run.specs.Running.{IsFormRun, IsRun, IsRunOf, OfForm}
+use Rattle.rs_run.specs.Threshold.{DoesByScan, DoesNext, ScanState, ScansRun, counted_step, first_statement, scanned_step}
+use Rattle.rs_run.specs.Told.{told_step}
 use Rattle.rs_run.specs.Top.{top_lines}
-use Rattle.rs_run.specs.Words.{Form, RunGenerated, RunScript, Top, form_of}
-use Rattle.rs_run.specs.declared.fault.RunFault.TheVariants.{Statement, Usage}
+use Rattle.rs_run.specs.Words.{Form, RunGenerated, RunScript, Threshold, Top, form_of}
+use Rattle.rs_run.specs.declared.fault.RunFault.{RunFault}
+use Rattle.rs_run.specs.declared.fault.RunFault.TheVariants.{NotEligible, Statement, Usage}
+use Rattle.rs_run.specs.declared.fault.ScriptWord.TheVariants.{Ta}
 
 -- a fetch finds something under each name, a file or none
 abbrev pub HasFiles : Finds → Type 0
@@ -88,30 +95,73 @@ module _ (finds : Finds) (has : HasFiles finds) (answer : Answering) (evaluating
       let on = goes_on (λ next more. RunOf (DoesInSession finds answer evaluating) next rest more) step.0.events step.0.outcome (λ next. statements rest next) in
       (on.0, (step.0, step.1, on.1))
 
+  pub each_statements : (commands : List Command) → (run : Run) × StatementsRun finds answer evaluating commands run
+  each_statements commands = statements commands nothing
+
+-- where any statements have a run, whatever the type of faults
+module _ {F : Type 0} (told : Fault → F) (of : List Command → events.Run F → Type 0) (each : (commands : List Command) → (run : events.Run F) × of commands run) where
   -- each text of a script has a run
-  pub each_text : (script : List ℕ) → (run : Run) × TextRuns (StatementsRun finds answer evaluating) script run
-  each_text script = lexed (script-is_lexed script)
+  pub text-has_run : (script : List ℕ) → (run : events.Run F) × TextRuns told of script run
+  text-has_run script = lexed (script-is_lexed script)
     where
-      parsed : (tokens : List Token) → HasTokens script tokens → IsParsed script tokens → (run : Run) × TextRuns (StatementsRun finds answer evaluating) script run
+      parsed : (tokens : List Token) → HasTokens script tokens → IsParsed script tokens → (run : events.Run F) × TextRuns told of script run
       parsed tokens spelled (inl made) =
-          let run = statements made.0 nothing in
+          let run = each made.0 in
           (run.0, runs made.0 run.0 (record { tokens = tokens; lexed = spelled; parsed = made.1; sound = made.2 }) run.1)
-      parsed tokens spelled (inr none) = (fails (Script (Parse none.0)), unparsed tokens none.0 spelled none.1)
+      parsed tokens spelled (inr none) = (fails (told (Script (Parse none.0))), unparsed tokens none.0 spelled none.1)
 
       lexed : ((tokens : List Token) × (length tokens ≤ most_tokens) × Spells 0 script tokens) ⊎ ((fault : LexFault) × RefusesBytes 0 0 script fault)
-          → (run : Run) × TextRuns (StatementsRun finds answer evaluating) script run
+          → (run : events.Run F) × TextRuns told of script run
       lexed (inl made) = parsed made.0 (record { spells = made.2; few = made.1 }) (each_is_parsed script made.0)
-      lexed (inr none) = (fails (Script (Lex none.0)), unlexed none.0 none.1)
+      lexed (inr none) = (fails (told (Script (Lex none.0))), unlexed none.0 none.1)
 
   -- each script has one, which begins with its fetch
-  pub each_script : (name : List ℕ) (there : Option (List ℕ)) → finds name there
-      → (run : Run) × (more : List Event) × ScriptRuns finds (StatementsRun finds answer evaluating) name run × (run.events ≡ Fetch name ∷ more)
-  each_script name there found = go (source_of name there) refl
+  pub script-has_run : (finds : Finds) (name : List ℕ) (there : Option (List ℕ)) → finds name there
+      → (run : events.Run F) × (more : List Event) × ScriptRuns told finds of name run × (run.events ≡ Fetch name ∷ more)
+  script-has_run finds name there found = go (source_of name there) refl
     where
       go : (source : Result (List ℕ) Fault) → source_of name there ≡ source
-          → (run : Run) × (more : List Event) × ScriptRuns finds (StatementsRun finds answer evaluating) name run × (run.events ≡ Fetch name ∷ more)
-      go (Err fault) e = (behind (Fetch name ∷ []) (fails fault), [], unread there fault found e, refl)
-      go (Ok script) e = let text = each_text script in (behind (Fetch name ∷ []) text.0, text.0.events, read there script text.0 found e text.1, refl)
+          → (run : events.Run F) × (more : List Event) × ScriptRuns told finds of name run × (run.events ≡ Fetch name ∷ more)
+      go (Err fault) e = (behind (Fetch name ∷ []) (fails (told fault)), [], unread there fault found e, refl)
+      go (Ok script) e = let text = text-has_run script in (behind (Fetch name ∷ []) text.0, text.0.events, read there script text.0 found e text.1, refl)
+
+module _ (finds : Finds) (has : HasFiles finds) (answer : Answering) (evaluating : Evaluating) where
+  pub each_text : (script : List ℕ) → (run : Run) × TextRuns as_it_is (StatementsRun finds answer evaluating) script run
+  each_text = text-has_run as_it_is (StatementsRun finds answer evaluating) (each_statements finds has answer evaluating)
+
+  pub each_script : (name : List ℕ) (there : Option (List ℕ)) → finds name there
+      → (run : Run) × (more : List Event) × ScriptRuns as_it_is finds (StatementsRun finds answer evaluating) name run × (run.events ≡ Fetch name ∷ more)
+  each_script = script-has_run as_it_is (StatementsRun finds answer evaluating) (each_statements finds has answer evaluating) finds
+
+-- the statements of a script whose queries are answered by scans
+module _ (finds : Finds) (has : HasFiles finds) (answer : Answering) where
+  -- one that is none of the word's own does what it does under the other words
+  does-told : (catalogue : CatalogDef) (command : Command) → (own : Step CatalogDef) × Does finds answer Plainly catalogue command own
+      → (step : events_in.Step RunFault CatalogDef) × ((made : Step CatalogDef) × Does finds answer Plainly catalogue command made × (step ≡ told_step Statement made))
+  does-told catalogue command own = (told_step Statement own.0, (own.0, own.1, refl))
+
+  each_by_scan : (number : ℕ) (catalogue : CatalogDef) (command : Command) → (step : events_in.Step RunFault CatalogDef) × DoesByScan finds answer number catalogue command step
+  each_by_scan number catalogue (CreateTable name columns file) =
+      does-told catalogue (CreateTable name columns file) (table finds has answer Plainly catalogue name file (with_room catalogue what.Table name (columns_of columns)))
+  each_by_scan number catalogue (CreatePredicate name params max cost formula) =
+      does-told catalogue (CreatePredicate name params max cost formula) (still (predicate_outcome catalogue name (CreatePredicate name params max cost formula)), refl)
+  each_by_scan number catalogue (CreateRankIndex name table predicate args at) =
+      does-told catalogue (CreateRankIndex name table predicate args at)
+      (refused_or (index_step answer catalogue) (with_room catalogue what.Index name (index_def_of catalogue (CreateRankIndex name table predicate args at))), refl)
+  each_by_scan number catalogue (Insert name rows) =
+      does-told catalogue (Insert name rows) (refused_or (insert_step answer catalogue) (or_bind_fault (insert_of catalogue (Insert name rows))), refl)
+  each_by_scan number catalogue (Ask query) = (scanned_step answer number catalogue query, refl)
+  each_by_scan number catalogue (Explain query) = (still (Err (NotEligible Ta number)), refl)
+  each_by_scan number catalogue (ExplainAnalyze query) = (still (Err (NotEligible Ta number)), refl)
+  each_by_scan number catalogue (Declare name query) = (still (Err (NotEligible Ta number)), refl)
+  each_by_scan number catalogue (syntax.Fetch count name) = (still (Err (NotEligible Ta number)), refl)
+  each_by_scan number catalogue (Close name) = (still (Err (NotEligible Ta number)), refl)
+
+  pub each_next : (state : ScanState) (command : Command) → (step : events_in.Step RunFault ScanState) × DoesNext finds answer state command step
+  each_next state command = let own = each_by_scan state.number state.catalogue command in (counted_step state.number own.0, (own.0, own.1, refl))
+
+  pub each_scans : (commands : List Command) → (run : WordsRun) × ScansRun finds answer commands run
+  each_scans commands = some-run (DoesNext finds answer) each_next first_statement commands
 
 -- and so have the generated scripts
 pub each_generated : (finds : Finds) (answer : Answering) (number rows : ℕ) → (run : Run) × IsRunOf finds answer (RunGenerated number rows) run
@@ -120,18 +170,26 @@ each_generated finds answer number rows =
     let whole = each_script (finds_generated number rows) (found_in-has there) answer (Planned (ByScores number)) script_name (there script_name) refl in
     (unfetched whole.0, (whole.0, whole.2, refl))
 
--- words
-each_form : (finds : Finds) → HasFiles finds → (answer : Answering) (form : Form) → (run : Run) × IsRunOf finds answer form run
-each_form finds has answer (Top top) = let there = has top.file in (fetch_then top.file (top_lines top there.0), (there.0, there.1, refl))
+-- words: of a form whose faults are those of statements
+each_told : (finds : Finds) (answer : Answering) (form : Form) → (run : Run) × IsRunOf finds answer form run
+    → (run : WordsRun) × ((own : Run) × IsRunOf finds answer form own × (run ≡ with_fault Statement own))
+each_told finds answer form own = (with_fault Statement own.0, (own.0, own.1, refl))
+
+each_form : (finds : Finds) → HasFiles finds → (answer : Answering) (form : Form) → (run : WordsRun) × IsFormRun finds answer form run
+each_form finds has answer (Top top) = let there = has top.file in each_told finds answer (Top top) (fetch_then top.file (top_lines top there.0), (there.0, there.1, refl))
 each_form finds has answer (RunScript name evaluating) =
     let there = has name in
     let run = each_script finds has answer evaluating name there.0 there.1 in
+    each_told finds answer (RunScript name evaluating) (run.0, run.2)
+each_form finds has answer (RunGenerated number rows) = each_told finds answer (RunGenerated number rows) (each_generated finds answer number rows)
+each_form finds has answer (Threshold name) =
+    let there = has name in
+    let run = script-has_run Statement (ScansRun finds answer) (each_scans finds has answer) finds name there.0 there.1 in
     (run.0, run.2)
-each_form finds has answer (RunGenerated number rows) = each_generated finds answer number rows
 
 pub words-have_run : (finds : Finds) → HasFiles finds → (answer : Answering) (words : List (List ℕ)) → (run : WordsRun) × IsRun finds answer words run
 words-have_run finds has answer words = go (form_of words)
   where
     go : (form : Option Form) → (run : WordsRun) × OfForm finds answer form run
     go None = (fails Usage, refl)
-    go (Some form) = let own = each_form finds has answer form in (with_fault Statement own.0, (own.0, own.1, refl))
+    go (Some form) = each_form finds has answer form

@@ -1,6 +1,8 @@
 pub mod Worked
 pub mod EachFacts
 pub mod RunFacts
+pub mod ScanFacts
+pub mod ScanSteps
 pub mod GeneratedFacts
 pub mod RowFacts
 pub mod TextFacts

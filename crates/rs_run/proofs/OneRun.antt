@@ -6,28 +6,38 @@ use Rattle.rs_lex.specs.declared.fault.LexFault.{LexFault}
 use Rattle.rs_lex.specs.declared.token.Token.{Token}
 use Rattle.rs_gen.specs.Files.{script_name}
 use Rattle.rs_syntax.specs.Scripts.{IsSound, Parses, Refuses}
-use Rattle.rs_syntax.specs.Syntax.{Command}
+use Rattle.rs_syntax.specs.Syntax.{Ask, Close, Command, CreatePredicate, CreateRankIndex, CreateTable, Declare, Explain, ExplainAnalyze, Insert}
+use Rattle.rs_syntax.specs.Syntax as syntax
 use Rattle.rs_syntax.specs.declared.fault.SyntaxFault.{SyntaxFault}
 use Rattle.rs_syntax.proofs.ScriptFacts.{Parses-one, Refuses-one, IsSound-not_refused}
 use Rattle.rs_statement.specs.declared.fault.Fault.TheVariants.{Script}
 use Rattle.rs_statement.specs.declared.script_fault.ScriptFault.TheVariants.{Lex, Parse}
-use Rattle.rs_run.specs.Words.{Form, RunGenerated, RunScript, Top, form_of}
+use Rattle.rs_run.specs.Words.{Form, RunGenerated, RunScript, Threshold, Top, form_of}
 use Rattle.rs_run.specs.Top.{top_lines}
-use Rattle.rs_run.specs.Plain.{HasTokens, HasStatements, ScriptRuns, TextRuns, unlexed, unparsed, runs, unread, read, source_of}
+use Rattle.rs_run.specs.Plain.{HasTokens, HasStatements, ScriptRuns, TextRuns, as_it_is, unlexed, unparsed, runs, unread, read, source_of}
 use Rattle.rs_expr.specs.Scoring.{Answering}
 use Rattle.rs_events.specs.Events.{Fetch, Finds}
 use Rattle.rs_statement.specs.Steps.{Run}
+use Rattle.rs_statement.specs.Steps as statement
+use Rattle.rs_events.specs.Run as events
+use Rattle.rs_events.specs.Sequence.{Step}
+use Rattle.rs_catalog.specs.Catalog.{CatalogDef}
+use Rattle.rs_statement.specs.declared.fault.Fault.{Fault}
+use Rattle.rs_statement.specs.Statements.{Does}
 use Rattle.rs_events.specs.Run.{behind, fails, fetch_then, with_fault}
 use Rattle.rs_run.specs.Generated.{finds_generated, unfetched}
-use Rattle.rs_run.specs.Running.{IsRun, IsRunOf, OfForm}
+use Rattle.rs_run.specs.Running.{IsFormRun, IsRun, IsRunOf, OfForm}
+use Rattle.rs_run.specs.Threshold.{DoesByScan, DoesNext, ScanState, ScansRun, counted_step, first_statement}
+use Rattle.rs_run.specs.Told.{told_step}
+use Rattle.rs_run.specs.declared.fault.RunFault.{RunFault}
 use Rattle.rs_run.specs.Faults.{WordsRun}
 use Rattle.rs_run.specs.declared.fault.RunFault.TheVariants.{Statement}
 use Rattle.std.specs.Prelude.{None, Option, Some}
-use Rattle.rs_statement.specs.declared.evaluating.Evaluating.TheVariants.{Planned}
+use Rattle.rs_statement.specs.declared.evaluating.Evaluating.TheVariants.{Plainly, Planned}
 use Rattle.rs_statement.specs.declared.sampling.Sampling.TheVariants.{ByScores}
 use Rattle.rs_statement.specs.Session.{StatementsRun}
-use Rattle.rs_events.proofs.OneRun.{OneFile}
-use Rattle.rs_statement.proofs.OneStep.{OneRun, Statements-one}
+use Rattle.rs_events.proofs.OneRun.{OneFile, RunOf-one}
+use Rattle.rs_statement.proofs.OneStep.{Does-one, Statements-one}
 
 -- a script has one list of tokens at most, and isn't refused by the lexer where it has one
 HasTokens-one : (script : List ℕ) (a b : List Token) → HasTokens script a → HasTokens script b → a ≡ b
@@ -46,45 +56,92 @@ HasStatements-not_refused : (script : List ℕ) (commands : List Command) (token
 HasStatements-not_refused script commands tokens fault x lexed refuses =
     IsSound-not_refused script tokens fault (subst (IsSound script) (HasTokens-one script x.tokens tokens x.lexed lexed) x.sound) refuses
 
--- a text has one run at most
-TextRuns-one : (statements : List Command → Run → Type 0) → OneRun statements → (script : List ℕ) (a b : Run) → TextRuns statements script a → TextRuns statements script b → a ≡ b
-TextRuns-one statements one script _ _ (unlexed x p) (unlexed y q) = ap (λ fault. fails (Script (Lex fault))) (RefusesBytes-unique 0 0 script x y p q)
-TextRuns-one statements one script _ _ (unlexed x p) (unparsed tokens y lexed q) = absurd (HasTokens-not_refused script tokens x lexed p)
-TextRuns-one statements one script _ _ (unlexed x p) (runs commands run made is) = absurd (HasTokens-not_refused script made.tokens x made.lexed p)
-TextRuns-one statements one script _ _ (unparsed tokens x lexed p) (unlexed y q) = absurd (HasTokens-not_refused script tokens y lexed q)
-TextRuns-one statements one script _ _ (unparsed tokens x lexed p) (unparsed others y other_lexed q) =
-    ap (λ fault. fails (Script (Parse fault)))
-    (Refuses-one script others x y (subst (λ tokens. Refuses script tokens x) (HasTokens-one script tokens others lexed other_lexed) p) q)
-TextRuns-one statements one script _ _ (unparsed tokens x lexed p) (runs commands run made is) = absurd (HasStatements-not_refused script commands tokens x made lexed p)
-TextRuns-one statements one script _ _ (runs commands run made is) (unlexed y q) = absurd (HasTokens-not_refused script made.tokens y made.lexed q)
-TextRuns-one statements one script _ _ (runs commands run made is) (unparsed tokens y lexed q) = absurd (HasStatements-not_refused script commands tokens y made lexed q)
-TextRuns-one statements one script _ _ (runs commands run made is) (runs others other again also) =
-    one others run other (subst (λ list. statements list run) (HasStatements-one script commands others made again) is) also
+-- these statements have one run at most
+abbrev OneRunOf : {F : Type 0} → (List Command → events.Run F → Type 0) → Type 0
+OneRunOf {F} statements = (commands : List Command) (a b : events.Run F) → statements commands a → statements commands b → a ≡ b
 
--- a script has one run at most
-ScriptRuns-one : (finds : Finds) → OneFile finds → (statements : List Command → Run → Type 0) → OneRun statements → (name : List ℕ) (a b : Run) → ScriptRuns finds statements name a → ScriptRuns finds statements name b → a ≡ b
-ScriptRuns-one finds one statements runs_one name _ _ (unread there x found e) (unread other y again f) =
-    let same : x ≡ y = let source = ap (source_of name) (one name there other found again) in cc in ap (λ fault. behind (Fetch name ∷ []) (fails fault)) same
-ScriptRuns-one finds one statements runs_one name _ _ (unread there x found e) (read other script run again f is) =
-    absurd (let source = ap (source_of name) (one name there other found again) in cc)
-ScriptRuns-one finds one statements runs_one name _ _ (read there script run found e is) (unread other y again f) =
-    absurd (let source = ap (source_of name) (one name there other found again) in cc)
-ScriptRuns-one finds one statements runs_one name _ _ (read there script run found e is) (read other text more again f also) =
-    let same : script ≡ text = let source = ap (source_of name) (one name there other found again) in cc in
-    ap (behind (Fetch name ∷ [])) (TextRuns-one statements runs_one text run more (subst (λ s. TextRuns statements s run) same is) also)
+module _ {F : Type 0} (told : Fault → F) (statements : List Command → events.Run F → Type 0) (one_of : OneRunOf statements) where
+  -- a text has one run at most
+  TextRuns-one : (script : List ℕ) (a b : events.Run F) → TextRuns told statements script a → TextRuns told statements script b → a ≡ b
+  TextRuns-one script _ _ (unlexed x p) (unlexed y q) = ap (λ fault. fails (told (Script (Lex fault)))) (RefusesBytes-unique 0 0 script x y p q)
+  TextRuns-one script _ _ (unlexed x p) (unparsed tokens y lexed q) = absurd (HasTokens-not_refused script tokens x lexed p)
+  TextRuns-one script _ _ (unlexed x p) (runs commands run made is) = absurd (HasTokens-not_refused script made.tokens x made.lexed p)
+  TextRuns-one script _ _ (unparsed tokens x lexed p) (unlexed y q) = absurd (HasTokens-not_refused script tokens y lexed q)
+  TextRuns-one script _ _ (unparsed tokens x lexed p) (unparsed others y other_lexed q) =
+      ap (λ fault. fails (told (Script (Parse fault))))
+      (Refuses-one script others x y (subst (λ tokens. Refuses script tokens x) (HasTokens-one script tokens others lexed other_lexed) p) q)
+  TextRuns-one script _ _ (unparsed tokens x lexed p) (runs commands run made is) = absurd (HasStatements-not_refused script commands tokens x made lexed p)
+  TextRuns-one script _ _ (runs commands run made is) (unlexed y q) = absurd (HasTokens-not_refused script made.tokens y made.lexed q)
+  TextRuns-one script _ _ (runs commands run made is) (unparsed tokens y lexed q) = absurd (HasStatements-not_refused script commands tokens y made lexed q)
+  TextRuns-one script _ _ (runs commands run made is) (runs others other again also) =
+      one_of others run other (subst (λ list. statements list run) (HasStatements-one script commands others made again) is) also
+
+  -- a script has one run at most
+  ScriptRuns-one : (finds : Finds) → OneFile finds → (name : List ℕ) (a b : events.Run F) → ScriptRuns told finds statements name a → ScriptRuns told finds statements name b → a ≡ b
+  ScriptRuns-one finds one name _ _ (unread there x found e) (unread other y again f) =
+      let same : x ≡ y = let source = ap (source_of name) (one name there other found again) in cc in ap (λ fault. behind (Fetch name ∷ []) (fails (told fault))) same
+  ScriptRuns-one finds one name _ _ (unread there x found e) (read other script run again f is) =
+      absurd (let source = ap (source_of name) (one name there other found again) in cc)
+  ScriptRuns-one finds one name _ _ (read there script run found e is) (unread other y again f) =
+      absurd (let source = ap (source_of name) (one name there other found again) in cc)
+  ScriptRuns-one finds one name _ _ (read there script run found e is) (read other text more again f also) =
+      let same : script ≡ text = let source = ap (source_of name) (one name there other found again) in cc in
+      ap (behind (Fetch name ∷ [])) (TextRuns-one text run more (subst (λ s. TextRuns told statements s run) same is) also)
 
 -- words of a form have one run at most
 IsRunOf-one : (finds : Finds) → OneFile finds → (answer : Answering) (form : Form) (run other : Run) → IsRunOf finds answer form run → IsRunOf finds answer form other → run ≡ other
 IsRunOf-one finds one answer (Top top) run other p q = p.2 ∙ ap (λ there. fetch_then top.file (top_lines top there)) (one top.file p.0 q.0 p.1 q.1) ∙ sym q.2
 IsRunOf-one finds one answer (RunScript name evaluating) run other p q =
-    ScriptRuns-one finds one (StatementsRun finds answer evaluating) (Statements-one finds one answer evaluating) name run other p q
+    ScriptRuns-one as_it_is (StatementsRun finds answer evaluating) (Statements-one finds one answer evaluating) finds one name run other p q
 IsRunOf-one finds one answer (RunGenerated number rows) run other p q =
     let own : OneFile (finds_generated number rows) = λ name a b p q. sym p ∙ q in
-    p.2 ∙ ap unfetched (ScriptRuns-one (finds_generated number rows) own (StatementsRun (finds_generated number rows) answer (Planned (ByScores number)))
-    (Statements-one (finds_generated number rows) own answer (Planned (ByScores number))) script_name p.0 q.0 p.1 q.1) ∙ sym q.2
+    p.2 ∙ ap unfetched (ScriptRuns-one as_it_is (StatementsRun (finds_generated number rows) answer (Planned (ByScores number)))
+    (Statements-one (finds_generated number rows) own answer (Planned (ByScores number))) (finds_generated number rows) own script_name p.0 q.0 p.1 q.1) ∙ sym q.2
+IsRunOf-one finds one answer (Threshold name) run other p q = absurd p
+
+-- a statement does one thing at most where queries are answered by scans
+DoesByScan-one : (finds : Finds) → OneFile finds → (answer : Answering) (number : ℕ) (catalogue : CatalogDef) (command : Command) (a b : Step RunFault CatalogDef)
+    → DoesByScan finds answer number catalogue command a → DoesByScan finds answer number catalogue command b → a ≡ b
+DoesByScan-one finds one answer number catalogue command a b p q = go command p q where
+  same : (command : Command) → (own : statement.Step CatalogDef) × Does finds answer Plainly catalogue command own × (a ≡ told_step Statement own)
+      → (own : statement.Step CatalogDef) × Does finds answer Plainly catalogue command own × (b ≡ told_step Statement own) → a ≡ b
+  same command p q = p.2 ∙ ap (told_step Statement) (Does-one finds one answer Plainly catalogue command p.0 q.0 p.1 q.1) ∙ sym q.2
+
+  go : (command : Command) → DoesByScan finds answer number catalogue command a → DoesByScan finds answer number catalogue command b → a ≡ b
+  go (CreateTable name columns file) p q = same (CreateTable name columns file) p q
+  go (CreatePredicate name params max cost formula) p q = same (CreatePredicate name params max cost formula) p q
+  go (CreateRankIndex name table predicate args at) p q = same (CreateRankIndex name table predicate args at) p q
+  go (Insert table rows) p q = same (Insert table rows) p q
+  go (Ask query) p q = p ∙ sym q
+  go (Declare name query) p q = p ∙ sym q
+  go (syntax.Fetch count name) p q = p ∙ sym q
+  go (Close name) p q = p ∙ sym q
+  go (Explain query) p q = p ∙ sym q
+  go (ExplainAnalyze query) p q = p ∙ sym q
+
+DoesNext-one : (finds : Finds) → OneFile finds → (answer : Answering) (state : ScanState) (command : Command) (a b : Step RunFault ScanState)
+    → DoesNext finds answer state command a → DoesNext finds answer state command b → a ≡ b
+DoesNext-one finds one answer state command a b p q =
+    p.2 ∙ ap (counted_step state.number) (DoesByScan-one finds one answer state.number state.catalogue command p.0 q.0 p.1 q.1) ∙ sym q.2
+
+-- so words of a form have one run at most
+IsFormRun-one : (finds : Finds) → OneFile finds → (answer : Answering) (form : Form) (run other : WordsRun) → IsFormRun finds answer form run → IsFormRun finds answer form other → run ≡ other
+IsFormRun-one finds one answer form run other p q = go form p q where
+  told : (form : Form) → (own : Run) × IsRunOf finds answer form own × (run ≡ with_fault Statement own)
+      → (own : Run) × IsRunOf finds answer form own × (other ≡ with_fault Statement own) → run ≡ other
+  told form p q = p.2 ∙ ap (with_fault Statement) (IsRunOf-one finds one answer form p.0 q.0 p.1 q.1) ∙ sym q.2
+
+  go : (form : Form) → IsFormRun finds answer form run → IsFormRun finds answer form other → run ≡ other
+  go (Top top) p q = told (Top top) p q
+  go (RunScript name evaluating) p q = told (RunScript name evaluating) p q
+  go (RunGenerated number rows) p q = told (RunGenerated number rows) p q
+  go (Threshold name) p q =
+      ScriptRuns-one Statement (ScansRun finds answer)
+      (λ commands a b p q. RunOf-one (DoesNext finds answer) (λ state command a b p q. DoesNext-one finds one answer state command a b p q) first_statement commands a b p q)
+      finds one name run other p q
 
 pub IsRun-one : (finds : Finds) → OneFile finds → (answer : Answering) (words : List (List ℕ)) (run other : WordsRun) → IsRun finds answer words run → IsRun finds answer words other → run ≡ other
 IsRun-one finds one answer words run other = go (form_of words) where
   go : (form : Option Form) → OfForm finds answer form run → OfForm finds answer form other → run ≡ other
   go None p q = p ∙ sym q
-  go (Some form) p q = p.2 ∙ ap (with_fault Statement) (IsRunOf-one finds one answer form p.0 q.0 p.1 q.1) ∙ sym q.2
+  go (Some form) p q = IsFormRun-one finds one answer form run other p q

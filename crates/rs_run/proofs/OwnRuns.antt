@@ -1,5 +1,5 @@
 -- The faults that the definition of a run can end with: never that a put failed or a call of the scorer, and Usage only where the words are of no form.
-use Rattle.std.proofs.Common.{ℕ, ◌≡◌, List, Some, None, refl, sym, subst}
+use Rattle.std.proofs.Common.{ℕ, ◌≡◌, List, [], ◌∷◌, Some, None, refl, sym, subst}
 use Rattle.std.specs.Prelude.{Option, option_map, Result, Ok, Err, unwrap_or}
 use Rattle.rs_value.specs.Text.{text_of}
 use Rattle.rs_value.specs.declared.text.TextFault.{TextFault}
@@ -8,24 +8,41 @@ use Rattle.rs_gen.specs.Files.{script_name}
 use Rattle.rs_table.specs.Column.{place_of}
 use Rattle.rs_statement.specs.declared.fault.Fault.{Fault}
 use Rattle.rs_run.specs.declared.fault.RunFault.{RunFault}
-use Rattle.rs_run.specs.declared.fault.RunFault.TheVariants.{Statement, Usage}
+use Rattle.rs_run.specs.declared.fault.RunFault.TheVariants.{NotEligible, Statement, Usage}
 use Rattle.rs_run.specs.Faults.{WordsRun}
-use Rattle.rs_run.specs.Words.{Form, RunGenerated, RunScript, Top, TopWords}
+use Rattle.rs_run.specs.Words.{Form, RunGenerated, RunScript, Threshold, Top, TopWords}
 use Rattle.rs_statement.specs.Content.{content_of, or_table_fault, table_limit}
 use Rattle.rs_run.specs.Top.{best_rows, named_table, number_at, ranked_lines, scored_rows, top_lines, top_table}
-use Rattle.rs_run.specs.Plain.{ScriptRuns, TextRuns, unlexed, unparsed, runs, unread, read, or_text_fault, script_limit, source_of, without_mark}
+use Rattle.rs_run.specs.Plain.{ScriptRuns, TextRuns, as_it_is, unlexed, unparsed, runs, unread, read, or_text_fault, script_limit, source_of, without_mark}
 use Rattle.rs_expr.specs.Scoring.{Answering}
 use Rattle.rs_events.specs.Events.{Finds}
 use Rattle.rs_statement.specs.Steps.{Run}
-use Rattle.rs_events.specs.Run.{fetch_then}
+use Rattle.rs_events.specs.Run.{fetch_then, with_fault}
 use Rattle.rs_run.specs.Generated.{finds_generated}
-use Rattle.rs_run.specs.Running.{IsRunOf, OfForm}
+use Rattle.rs_run.specs.Running.{IsFormRun, IsRunOf, OfForm}
+use Rattle.rs_run.specs.Threshold.{DoesByScan, DoesNext, ScanState, ScansRun, counted_step, first_statement, scan_for, scan_of, scan_step, scanned_or, scanned_step}
+use Rattle.rs_run.specs.Told.{told_result, told_step}
+use Rattle.rs_run.specs.declared.fault.ScriptWord.TheVariants.{Ta}
+use Rattle.rs_value.specs.Results.{◌>>=◌}
+use Rattle.rs_syntax.specs.Syntax.{Ask, Close, Command, CreatePredicate, CreateRankIndex, CreateTable, Declare, Explain, ExplainAnalyze, Insert}
+use Rattle.rs_syntax.specs.Syntax as syntax
+use Rattle.rs_catalog.specs.Catalog.{CatalogDef}
+use Rattle.rs_bind.specs.Queries.{bound_query}
+use Rattle.rs_typing.specs.declared.fault.BindFault.{BindFault}
+use Rattle.rs_typing.specs.declared.fault.BindFault.TheVariants as bind
+use Rattle.rs_query.specs.declared.query.Query.{Query}
+use Rattle.rs_ta.specs.Depths.{ScanInput}
+use Rattle.rs_events.specs.Events.{Event}
+use Rattle.rs_events.specs.Sequence.{RunOf, RunsOn, Step, still}
+use Rattle.rs_statement.specs.Parts.Session.{IsOfNoCursor}
+use Rattle.rs_statement.specs.Statements.{Does, or_bind_fault}
+use Rattle.rs_statement.specs.Steps as statement
 use Rattle.rs_statement.specs.Faults.{or_index_fault}
 use Rattle.rs_statement.specs.Lines.{rank_lines}
 use Rattle.rs_statement.specs.declared.evaluating.Evaluating.{Evaluating}
-use Rattle.rs_statement.specs.declared.evaluating.Evaluating.TheVariants.{Planned}
+use Rattle.rs_statement.specs.declared.evaluating.Evaluating.TheVariants.{Plainly, Planned}
 use Rattle.rs_statement.specs.declared.sampling.Sampling.TheVariants.{ByScores}
-use Rattle.rs_statement.specs.Session.{StatementsRun, nothing}
+use Rattle.rs_statement.specs.Session.{DoesInSession, State, StatementsRun, beside_cursors, nothing}
 use Rattle.rs_statement.proofs.OwnFaults.{IsOwn, Own, OwnEnd, Own-content, Own-ranking, Own-statements, Own-table, Own-then, OwnRanking-scored}
 
 -- the text of a script
@@ -52,13 +69,13 @@ Own-top top there =
     (λ rows. tt))
 
 -- the statements of a script
-Own-runs : (finds : Finds) (answer : Answering) (evaluating : Evaluating) (script : List ℕ) (run : Run) → TextRuns (StatementsRun finds answer evaluating) script run → OwnEnd run.fault
+Own-runs : (finds : Finds) (answer : Answering) (evaluating : Evaluating) (script : List ℕ) (run : Run) → TextRuns as_it_is (StatementsRun finds answer evaluating) script run → OwnEnd run.fault
 unfolding OwnEnd IsOwn
 Own-runs finds answer evaluating script _ (unlexed fault refuses) = tt
 Own-runs finds answer evaluating script _ (unparsed tokens fault lexed refuses) = tt
 Own-runs finds answer evaluating script run (runs commands _ made is) = Own-statements finds answer evaluating nothing commands run is
 
-Own-script : (finds : Finds) (answer : Answering) (evaluating : Evaluating) (name : List ℕ) (run : Run) → ScriptRuns finds (StatementsRun finds answer evaluating) name run → OwnEnd run.fault
+Own-script : (finds : Finds) (answer : Answering) (evaluating : Evaluating) (name : List ℕ) (run : Run) → ScriptRuns as_it_is finds (StatementsRun finds answer evaluating) name run → OwnEnd run.fault
 unfolding Own OwnEnd
 Own-script finds answer evaluating name _ (unread there fault found e) = subst Own e (Own-source name there)
 Own-script finds answer evaluating name _ (read there script run found e is) = Own-runs finds answer evaluating script run is
@@ -67,6 +84,7 @@ Own-script finds answer evaluating name _ (read there script run found e is) = O
 unfoldable pub OwnFault : Option Form → Option RunFault → Type 0
 OwnFault form None = Unit {0}
 OwnFault form (Some Usage) = form ≡ None
+OwnFault form (Some (NotEligible word statement)) = Unit {0}
 OwnFault form (Some (Statement fault)) = IsOwn fault
 
 OwnFault-end : (form : Option Form) (fault : Option Fault) → OwnEnd fault → OwnFault form (option_map Statement fault)
@@ -85,9 +103,150 @@ OwnEnd-form finds answer (Top top) run is = subst (λ (r : Run). OwnEnd r.fault)
 OwnEnd-form finds answer (RunScript name evaluating) run is = Own-script finds answer evaluating name run is
 OwnEnd-form finds answer (RunGenerated number rows) run is =
     subst (λ (r : Run). OwnEnd r.fault) (sym is.2) (Own-script (finds_generated number rows) answer (Planned (ByScores number)) script_name is.0 is.1)
+OwnEnd-form finds answer (Threshold name) run is = absurd is
+
+-- the faults of words that have some of their own: never Usage, and of those of statements the same ones
+unfoldable OwnTold : RunFault → Type 0
+OwnTold Usage = ⊥
+OwnTold (NotEligible word statement) = Unit {0}
+OwnTold (Statement fault) = IsOwn fault
+
+unfoldable OwnOutcome : {A : Type 0} → Result A RunFault → Type 0
+OwnOutcome (Ok a) = Unit {0}
+OwnOutcome (Err why) = OwnTold why
+
+unfoldable OwnRun : Option RunFault → Type 0
+OwnRun None = Unit {0}
+OwnRun (Some why) = OwnTold why
+
+-- a run whose steps have such faults alone
+OwnRun-on : {S : Type 0} (rest : S → WordsRun → Type 0) (events : List Event) (outcome : Result S RunFault) (run : WordsRun) → OwnOutcome outcome
+    → ((next : S) (more : WordsRun) → rest next more → OwnRun more.fault) → RunsOn rest events outcome run → OwnRun run.fault
+unfolding OwnRun OwnOutcome
+OwnRun-on rest events (Err why) run own each on = subst (λ (r : WordsRun). OwnRun r.fault) (sym on) own
+OwnRun-on rest events (Ok next) run own each on = subst (λ (r : WordsRun). OwnRun r.fault) (sym on.2) (each next on.0 on.1)
+
+OwnRun-of : {S C : Type 0} (does : S → C → Step RunFault S → Type 0) → ((state : S) (command : C) (step : Step RunFault S) → does state command step → OwnOutcome step.outcome)
+    → (state : S) (commands : List C) (run : WordsRun) → RunOf does state commands run → OwnRun run.fault
+unfolding OwnRun
+OwnRun-of does own state [] run is = subst (λ (r : WordsRun). OwnRun r.fault) (sym is) tt
+OwnRun-of does own state (command ∷ rest) run is =
+    OwnRun-on (λ next more. RunOf does next rest more) is.0.events is.0.outcome run (own state command is.0 is.1) (λ next more. OwnRun-of does own next rest more) is.2
+
+-- and a script of such statements
+OwnRun-text : (statements : List Command → WordsRun → Type 0) → ((commands : List Command) (run : WordsRun) → statements commands run → OwnRun run.fault)
+    → (script : List ℕ) (run : WordsRun) → TextRuns Statement statements script run → OwnRun run.fault
+unfolding OwnRun OwnTold IsOwn
+OwnRun-text statements own script _ (unlexed fault refuses) = tt
+OwnRun-text statements own script _ (unparsed tokens fault lexed refuses) = tt
+OwnRun-text statements own script run (runs commands _ made is) = own commands run is
+
+OwnRun-script : (finds : Finds) (statements : List Command → WordsRun → Type 0) → ((commands : List Command) (run : WordsRun) → statements commands run → OwnRun run.fault)
+    → (name : List ℕ) (run : WordsRun) → ScriptRuns Statement finds statements name run → OwnRun run.fault
+unfolding OwnRun OwnTold Own
+OwnRun-script finds statements own name _ (unread there fault found e) = subst Own e (Own-source name there)
+OwnRun-script finds statements own name _ (read there script run found e is) = OwnRun-text statements own script run is
+
+-- a statement that is of no cursor, told as one of words: its run alone in a script has a fault of statements
+Own-alone : (finds : Finds) (answer : Answering) (catalogue : CatalogDef) (command : Command) (own : statement.Step CatalogDef) → IsOfNoCursor command → Does finds answer Plainly catalogue command own
+    → OwnOutcome (told_step Statement own).outcome
+unfolding OwnOutcome OwnTold OwnEnd
+Own-alone finds answer catalogue command own of does = go own.outcome refl where
+  state : State
+  state = record { catalogue = catalogue; cursors = [] }
+
+  in_session : (command : Command) → IsOfNoCursor command → Does finds answer Plainly catalogue command own → DoesInSession finds answer Plainly state command (beside_cursors [] own)
+  in_session (Declare name query) of does = absurd of
+  in_session (syntax.Fetch count name) of does = absurd of
+  in_session (Close name) of does = absurd of
+  in_session (CreateTable name columns file) of does = (own, does, refl)
+  in_session (CreatePredicate name params max cost formula) of does = (own, does, refl)
+  in_session (CreateRankIndex name table predicate args at) of does = (own, does, refl)
+  in_session (Ask query) of does = (own, does, refl)
+  in_session (Explain query) of does = (own, does, refl)
+  in_session (ExplainAnalyze query) of does = (own, does, refl)
+  in_session (Insert table rows) of does = (own, does, refl)
+
+  ends : (fault : Fault) → own.outcome ≡ Err fault → OwnEnd (Some fault)
+  ends fault e = Own-statements finds answer Plainly state (command ∷ []) (record { events = own.events; fault = Some fault }) (
+    beside_cursors [] own,
+    in_session command of does,
+    subst (λ (outcome : Result CatalogDef Fault). RunsOn (λ next more. RunOf (DoesInSession finds answer Plainly) next [] more) own.events
+        (outcome >>= λ catalogue. Ok (record { catalogue = catalogue; cursors = [] })) (record { events = own.events; fault = Some fault })) (sym e) refl,
+  )
+
+  go : (outcome : Result CatalogDef Fault) → own.outcome ≡ outcome → OwnOutcome (told_result Statement outcome)
+  go (Ok next) e = tt
+  go (Err fault) e = ends fault e
+
+-- the statements of a script whose queries are answered by scans
+OwnOutcome-query : (answer : Answering) (number : ℕ) (catalogue : CatalogDef) (query : Query) → OwnOutcome (scan_step answer number catalogue query).outcome
+unfolding OwnOutcome OwnTold
+OwnOutcome-query answer number catalogue query = go (scan_for catalogue query) where
+  go : (scan : Option ScanInput) → OwnOutcome (scan_of answer number catalogue query scan).outcome
+  go None = tt
+  go (Some scan) = tt
+
+OwnOutcome-bound : (answer : Answering) (number : ℕ) (catalogue : CatalogDef) (query : syntax.Query) → OwnOutcome (scanned_step answer number catalogue query).outcome
+unfolding OwnOutcome OwnTold IsOwn
+OwnOutcome-bound answer number catalogue query = go (bound_query catalogue query) where
+  go : (bound : Result Query BindFault) → OwnOutcome (scanned_or answer number catalogue (or_bind_fault bound)).outcome
+  go (Ok bound) = OwnOutcome-query answer number catalogue bound
+  go (Err (bind.At why at)) = tt
+  go (Err bind.Memory) = tt
+
+OwnOutcome-by_scan : (finds : Finds) (answer : Answering) (number : ℕ) (catalogue : CatalogDef) (command : Command) (step : Step RunFault CatalogDef) → DoesByScan finds answer number catalogue command step
+    → OwnOutcome step.outcome
+unfolding OwnOutcome OwnTold
+OwnOutcome-by_scan finds answer number catalogue command step = go command where
+  same : (own : Step RunFault CatalogDef) → OwnOutcome own.outcome → step ≡ own → OwnOutcome step.outcome
+  same own is e = subst (λ (s : Step RunFault CatalogDef). OwnOutcome s.outcome) (sym e) is
+
+  told : (command : Command) → IsOfNoCursor command → (own : statement.Step CatalogDef) × Does finds answer Plainly catalogue command own × (step ≡ told_step Statement own) → OwnOutcome step.outcome
+  told command of does = same (told_step Statement does.0) (Own-alone finds answer catalogue command does.0 of does.1) does.2
+
+  go : (command : Command) → DoesByScan finds answer number catalogue command step → OwnOutcome step.outcome
+  go (Ask query) does = same (scanned_step answer number catalogue query) (OwnOutcome-bound answer number catalogue query) does
+  go (Declare name query) does = same (still (Err (NotEligible Ta number))) tt does
+  go (syntax.Fetch count name) does = same (still (Err (NotEligible Ta number))) tt does
+  go (Close name) does = same (still (Err (NotEligible Ta number))) tt does
+  go (Explain query) does = same (still (Err (NotEligible Ta number))) tt does
+  go (ExplainAnalyze query) does = same (still (Err (NotEligible Ta number))) tt does
+  go (CreateTable name columns file) does = told (CreateTable name columns file) tt does
+  go (CreatePredicate name params max cost formula) does = told (CreatePredicate name params max cost formula) tt does
+  go (CreateRankIndex name table predicate args at) does = told (CreateRankIndex name table predicate args at) tt does
+  go (Insert table rows) does = told (Insert table rows) tt does
+
+OwnOutcome-next : (finds : Finds) (answer : Answering) (state : ScanState) (command : Command) (step : Step RunFault ScanState) → DoesNext finds answer state command step → OwnOutcome step.outcome
+unfolding OwnOutcome
+OwnOutcome-next finds answer state command step does =
+    subst (λ (s : Step RunFault ScanState). OwnOutcome s.outcome) (sym does.2)
+    (go does.0.outcome (OwnOutcome-by_scan finds answer state.number state.catalogue command does.0 does.1)) where
+      go : (outcome : Result CatalogDef RunFault) → OwnOutcome outcome → OwnOutcome (counted_step state.number (record { events = does.0.events; outcome = outcome })).outcome
+      go (Ok catalogue) own = tt
+      go (Err why) own = own
+
+-- the faults of a run with a form
+OwnFault-told : (form : Form) (fault : Option RunFault) → OwnRun fault → OwnFault (Some form) fault
+unfolding OwnFault OwnRun OwnTold
+OwnFault-told form None own = tt
+OwnFault-told form (Some Usage) own = absurd own
+OwnFault-told form (Some (NotEligible word statement)) own = tt
+OwnFault-told form (Some (Statement fault)) own = own
+
+form_fault : (finds : Finds) (answer : Answering) (form : Form) (run : WordsRun) → IsFormRun finds answer form run → OwnFault (Some form) run.fault
+form_fault finds answer form run is = go form is where
+  statements : (form : Form) → (own : Run) × IsRunOf finds answer form own × (run ≡ with_fault Statement own) → OwnFault (Some form) run.fault
+  statements form is = subst (λ (r : WordsRun). OwnFault (Some form) r.fault) (sym is.2) (OwnFault-end (Some form) is.0.fault (OwnEnd-form finds answer form is.0 is.1))
+
+  go : (form : Form) → IsFormRun finds answer form run → OwnFault (Some form) run.fault
+  go (Top top) is = statements (Top top) is
+  go (RunScript name evaluating) is = statements (RunScript name evaluating) is
+  go (RunGenerated number rows) is = statements (RunGenerated number rows) is
+  go (Threshold name) is = OwnFault-told (Threshold name) run.fault
+      (OwnRun-script finds (ScansRun finds answer) (λ commands run is. OwnRun-of (DoesNext finds answer) (OwnOutcome-next finds answer) first_statement commands run is) name run is)
 
 pub own_fault : (finds : Finds) (answer : Answering) (form : Option Form) (run : WordsRun) → OfForm finds answer form run → OwnFault form run.fault
 unfolding OwnFault
 own_fault finds answer None run is = subst (λ (r : WordsRun). OwnFault None r.fault) (sym is) refl
-own_fault finds answer (Some form) run is =
-    subst (λ (r : WordsRun). OwnFault (Some form) r.fault) (sym is.2) (OwnFault-end (Some form) is.0.fault (OwnEnd-form finds answer form is.0 is.1))
+own_fault finds answer (Some form) run is = form_fault finds answer form run is

@@ -16,11 +16,12 @@ use Rattle.rs_events.specs.Events.{Event, Fetch, Finds, Put, finds_in}
 use Rattle.rs_events.specs.Run.{fails, fetch_then, lines_run, with_fault}
 use Rattle.rs_events.specs.HaltFaults.{TellAs}
 use Rattle.rs_events.specs.Running as running
-use Rattle.rs_run.specs.Running.{IsRun, IsRunOf, OfForm}
+use Rattle.rs_run.specs.Running.{IsFormRun, IsRun, IsRunOf, OfForm}
 use Rattle.rs_events.specs.Environment.{Environment}
-use Rattle.rs_statement.specs.Steps.{statement_faults}
+use Rattle.rs_statement.specs.Steps.{Run, statement_faults}
+use Rattle.rs_run.specs.declared.fault.RunFault.{RunFault}
 use Rattle.rs_run.specs.declared.fault.RunFault.TheVariants.{Statement, Usage}
-use Rattle.rs_run.specs.Faults.{run_faults}
+use Rattle.rs_run.specs.Faults.{WordsRun, run_faults}
 use Rattle.rs_statement.specs.Parts.Steps.{FetchesFile, Ran, Runs}
 use Rattle.rs_run.specs.Parts.Read.{IsTopTable}
 use Rattle.rs_events.proofs.FetchFacts.{Ran-unfetched, fetched-ok}
@@ -77,35 +78,32 @@ module _ (answer : Answering) (top : TopWords) (environment : Environment) (file
       }
 
 -- faults of statements, told as those of words
-statement-faults : TellAs Statement statement_faults run_faults
+pub statement-faults : TellAs Statement statement_faults run_faults
 statement-faults = record { memory = refl; write = refl; failed_call = λ call. refl; failed_fetch = λ name fault is. ap Statement is }
 
--- a run of this form
+-- the run of a form whose faults are those of statements, told as those of words
+abbrev pub Told : Finds → Answering → Form → WordsRun → Type 0
+Told finds answer form run = (own : Run) × IsRunOf finds answer form own × (run ≡ with_fault Statement own)
+
 module _ (finds : Finds) (answer : Answering) (form : Form) (old new : Environment) where
-  pub Runs-form_ok : Runs (IsRunOf finds answer form) (Ok tt) old new → running.Runs run_faults (OfForm finds answer (Some form)) (Ok tt) old new
-  Runs-form_ok ran = record {
+  pub Runs-told_ok : Runs (IsRunOf finds answer form) (Ok tt) old new → running.Runs run_faults (Told finds answer form) (Ok tt) old new
+  Runs-told_ok ran = record {
     run = with_fault Statement ran.run;
     is = (ran.run, ran.is, refl);
     ran = Ran-told_ok Statement statement_faults run_faults statement-faults ran.run old new ran.ran;
   }
 
-  pub Runs-form_err : (fault : Fault) → Runs (IsRunOf finds answer form) (Err fault) old new
-      → running.Runs run_faults (OfForm finds answer (Some form)) (Err (Statement fault)) old new
-  Runs-form_err fault ran = record {
+  pub Runs-told_err : (fault : Fault) → Runs (IsRunOf finds answer form) (Err fault) old new → running.Runs run_faults (Told finds answer form) (Err (Statement fault)) old new
+  Runs-told_err fault ran = record {
     run = with_fault Statement ran.run;
     is = (ran.run, ran.is, refl);
     ran = Ran-told_err Statement statement_faults run_faults statement-faults ran.run old new fault ran.ran;
   }
 
 -- a run of words whose form is known
-module _ (finds : Finds) (answer : Answering) (words : List (List ℕ)) (form : Form) (old new : Environment) (is_form : form_of words ≡ Some form) where
-  pub Runs-words_ok : Runs (IsRunOf finds answer form) (Ok tt) old new → running.Runs run_faults (IsRun finds answer words) (Ok tt) old new
-  Runs-words_ok ran = subst (λ form. running.Runs run_faults (OfForm finds answer form) (Ok tt) old new) (sym is_form) (Runs-form_ok finds answer form old new ran)
-
-  pub Runs-words_err : (fault : Fault) → Runs (IsRunOf finds answer form) (Err fault) old new
-      → running.Runs run_faults (IsRun finds answer words) (Err (Statement fault)) old new
-  Runs-words_err fault ran =
-      subst (λ form. running.Runs run_faults (OfForm finds answer form) (Err (Statement fault)) old new) (sym is_form) (Runs-form_err finds answer form old new fault ran)
+pub Runs-words : (finds : Finds) (answer : Answering) (words : List (List ℕ)) (form : Form) (result : Result (Unit {0}) RunFault) (old new : Environment) → form_of words ≡ Some form
+    → running.Runs run_faults (IsFormRun finds answer form) result old new → running.Runs run_faults (IsRun finds answer words) result old new
+Runs-words finds answer words form result old new is_form ran = subst (λ form. running.Runs run_faults (OfForm finds answer form) result old new) (sym is_form) ran
 
 -- words of no form
 pub Runs-usage : (finds : Finds) (answer : Answering) (words : List (List ℕ)) (environment : Environment) → form_of words ≡ None

@@ -7,7 +7,7 @@ use Rattle.rs_syntax.specs.Syntax.{Command}
 use Rattle.rs_syntax.proofs.WrittenFacts.{AreWritten-parsed}
 use Rattle.rs_statement.specs.declared.evaluating.Evaluating.TheVariants.{Planned, Plainly}
 use Rattle.rs_statement.specs.declared.sampling.Sampling.{Sampling}
-use Rattle.rs_run.specs.Plain.{HasStatements, TextRuns, read, runs, source_of, unlexed, unparsed, unread}
+use Rattle.rs_run.specs.Plain.{HasStatements, TextRuns, as_it_is, read, runs, source_of, unlexed, unparsed, unread}
 use Rattle.rs_events.specs.Events.{Finds, puts}
 use Rattle.rs_statement.specs.Steps.{Run}
 use Rattle.rs_run.specs.Running.{HasNoExplain, IsRunOf}
@@ -21,7 +21,7 @@ use Rattle.rs_statement.proofs.SameFetches.{AskTheSame}
 
 module _ (give : GiveAnswers) (same : AskTheSame) (finds : Finds) (one : OneFile finds) (answer : Answering) (sampling : Sampling) where
   -- texts and scripts
-  alike-texts : (script : List ℕ) (a b : Run) → ((commands : List Command) → HasStatements script commands → AllByRecursion IsNoExplain commands) → TextRuns (StatementsRun finds answer Plainly) script a → TextRuns (StatementsRun finds answer (Planned sampling)) script b
+  alike-texts : (script : List ℕ) (a b : Run) → ((commands : List Command) → HasStatements script commands → AllByRecursion IsNoExplain commands) → TextRuns as_it_is (StatementsRun finds answer Plainly) script a → TextRuns as_it_is (StatementsRun finds answer (Planned sampling)) script b
       → a.fault ≡ None → b.fault ≡ None → puts a.events ≡ puts b.events
   alike-texts script _ b silent (unlexed fault refuses) rb wa wb = absurd cc
   alike-texts script _ b silent (unparsed tokens fault lexed refuses) rb wa wb = absurd cc
@@ -37,4 +37,4 @@ module _ (give : GiveAnswers) (same : AskTheSame) (finds : Finds) (one : OneFile
   alike-scripts name _ _ silent (read there script a found e is) (unread other fault again f) wa wb = absurd cc
   alike-scripts name _ _ silent (read there script a found e is) (read other text b again f also) wa wb =
       let same : script ≡ text = (let source = ap (source_of name) (one name there other found again) in cc) in
-      alike-texts text a b (λ commands made. silent other text commands again f made) (subst (λ s. TextRuns (StatementsRun finds answer Plainly) s a) same is) also wa wb
+      alike-texts text a b (λ commands made. silent other text commands again f made) (subst (λ s. TextRuns as_it_is (StatementsRun finds answer Plainly) s a) same is) also wa wb

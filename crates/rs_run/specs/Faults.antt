@@ -1,5 +1,6 @@
 -- The faults with which runs of words end: their statuses, and their lines on standard error.
-use Rattle.std.specs.Prelude.{ℕ, ◌≡◌, List, Option, Some, None, codes}
+use Rattle.std.specs.Prelude.{ℕ, ◌≡◌, List, [], ◌∷◌, ◌++◌, Option, Some, None, codes}
+use Rattle.std.specs.Fmt.{decimal}
 use Rattle.rs_outside.specs.declared.files.FetchFault.TheVariants.{Failed}
 use Rattle.rs_expr.specs.declared.scorer.Call.{Call}
 use Rattle.rs_events.specs.HaltFaults.{HaltFaults}
@@ -7,7 +8,9 @@ use Rattle.rs_events.specs.Run as events
 use Rattle.rs_statement.specs.declared.fault.Fault.TheVariants as fault
 use Rattle.rs_statement.specs.Faults.{fault_line}
 use Rattle.rs_run.specs.declared.fault.RunFault.{RunFault}
-use Rattle.rs_run.specs.declared.fault.RunFault.TheVariants.{Statement, Usage}
+use Rattle.rs_run.specs.declared.fault.RunFault.TheVariants.{NotEligible, Statement, Usage}
+use Rattle.rs_run.specs.declared.fault.ScriptWord.{ScriptWord}
+use Rattle.rs_run.specs.declared.fault.ScriptWord.TheVariants.{Ta}
 use Rattle.rs_run.specs.declared.status.Status.{Status}
 use Rattle.rs_run.specs.declared.status.Status.TheVariants as status
 
@@ -28,6 +31,7 @@ run_faults = record {
 abbrev pub status_of : Option RunFault → Status
 status_of None = status.Done
 status_of (Some Usage) = status.Usage
+status_of (Some (NotEligible word statement)) = status.Script
 status_of (Some (Statement fault.Memory)) = status.Memory
 status_of (Some (Statement (fault.Read name why))) = status.Read
 status_of (Some (Statement fault.Write)) = status.Write
@@ -37,7 +41,12 @@ status_of (Some (Statement (fault.Probe predicate))) = status.Probe
 status_of (Some (Statement (fault.Script why))) = status.Script
 status_of (Some (Statement (fault.Session why name))) = status.Session
 
+-- the name of a word that takes some statements alone
+abbrev pub word_name : ScriptWord → List ℕ
+word_name Ta = codes "ta"
+
 -- the line of a fault
 abbrev pub run_fault_line : RunFault → List ℕ
-run_fault_line Usage = codes "usage: ranksql top FILE COLUMN MAX K, run SCRIPT SEED, plain SCRIPT, gen NUMBER ROWS\n"
+run_fault_line Usage = codes "usage: ranksql top FILE COLUMN MAX K, run SCRIPT SEED, plain SCRIPT, gen NUMBER ROWS, ta SCRIPT\n"
+run_fault_line (NotEligible word statement) = codes "script: " ++ word_name word ++ codes " NotEligible statement " ++ decimal statement ++ 10 ∷ []
 run_fault_line (Statement why) = fault_line why

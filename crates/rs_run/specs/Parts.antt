@@ -2,3 +2,4 @@
 pub mod CommandLine
 pub mod Read
 pub mod Script
+pub mod Scanning

@@ -1,4 +1,4 @@
--- The word `plain`: the statements of a script, one after another.
+-- Scripts: the statements of a file, one after another.
 use Rattle.std.specs.Prelude.{ℕ, ◌≡◌, ◌≤◌, List, [], ◌∷◌, length, take, drop, Option, Result, Ok, Err, if◌then◌else◌}
 use Rattle.std.specs.Str.{bytes_eq}
 use Rattle.rs_value.specs.Text.{text_of}
@@ -16,8 +16,7 @@ use Rattle.rs_statement.specs.declared.fault.Fault.TheVariants.{Memory, Script}
 use Rattle.rs_statement.specs.declared.script_fault.ScriptFault.TheVariants.{NotUtf8, Lex, Parse}
 use Rattle.rs_statement.specs.Content.{content_of}
 use Rattle.rs_events.specs.Events.{Fetch, Finds}
-use Rattle.rs_statement.specs.Steps.{Run}
-use Rattle.rs_events.specs.Run.{behind, fails}
+use Rattle.rs_events.specs.Run.{Run, behind, fails}
 
 -- the most bytes of a script's file, a byte order mark counted
 abbrev pub script_limit : ℕ
@@ -54,14 +53,19 @@ pub record HasStatements (script : List ℕ) (commands : List Command) : Type 0 
   pub parsed : Parses script tokens commands
   pub sound : IsSound script tokens
 
--- what the text of a script does: the lexer comes first, then the parser, and then the statements, which have these runs
-pub data TextRuns (statements : List Command → Run → Type 0) (script : List ℕ) : Run → Type 0 where
-  unlexed : (fault : LexFault) → lex.RefusesBytes 0 0 script fault → TextRuns statements script (fails (Script (Lex fault)))
-  unparsed : (tokens : List Token) (fault : SyntaxFault) → HasTokens script tokens → Refuses script tokens fault → TextRuns statements script (fails (Script (Parse fault)))
-  runs : (commands : List Command) (run : Run) → HasStatements script commands → statements commands run → TextRuns statements script run
+-- what the text of a script does: the lexer comes first, then the parser, and then the statements, which have these runs. A fault of the text is told so,
+-- whatever the type of faults of the statements
+pub data TextRuns {F : Type 0} (told : Fault → F) (statements : List Command → Run F → Type 0) (script : List ℕ) : Run F → Type 0 where
+  unlexed : (fault : LexFault) → lex.RefusesBytes 0 0 script fault → TextRuns told statements script (fails (told (Script (Lex fault))))
+  unparsed : (tokens : List Token) (fault : SyntaxFault) → HasTokens script tokens → Refuses script tokens fault → TextRuns told statements script (fails (told (Script (Parse fault))))
+  runs : (commands : List Command) (run : Run F) → HasStatements script commands → statements commands run → TextRuns told statements script run
 
 -- what a script does: its file is fetched first
-pub data ScriptRuns (finds : Finds) (statements : List Command → Run → Type 0) (name : List ℕ) : Run → Type 0 where
-  unread : (there : Option (List ℕ)) (fault : Fault) → finds name there → source_of name there ≡ Err fault → ScriptRuns finds statements name (behind (Fetch name ∷ []) (fails fault))
-  read : (there : Option (List ℕ)) (script : List ℕ) (run : Run) → finds name there → source_of name there ≡ Ok script → TextRuns statements script run
-      → ScriptRuns finds statements name (behind (Fetch name ∷ []) run)
+pub data ScriptRuns {F : Type 0} (told : Fault → F) (finds : Finds) (statements : List Command → Run F → Type 0) (name : List ℕ) : Run F → Type 0 where
+  unread : (there : Option (List ℕ)) (fault : Fault) → finds name there → source_of name there ≡ Err fault → ScriptRuns told finds statements name (behind (Fetch name ∷ []) (fails (told fault)))
+  read : (there : Option (List ℕ)) (script : List ℕ) (run : Run F) → finds name there → source_of name there ≡ Ok script → TextRuns told statements script run
+      → ScriptRuns told finds statements name (behind (Fetch name ∷ []) run)
+
+-- a fault told as it is
+abbrev pub as_it_is : Fault → Fault
+as_it_is fault = fault

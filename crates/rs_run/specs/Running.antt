@@ -9,9 +9,10 @@ use Rattle.rs_statement.specs.declared.sampling.Sampling.TheVariants.{ByScores}
 use Rattle.rs_syntax.specs.Syntax.{Command}
 use Rattle.rs_run.specs.Faults.{WordsRun}
 use Rattle.rs_run.specs.declared.fault.RunFault.TheVariants.{Statement, Usage}
-use Rattle.rs_run.specs.Words.{Form, RunGenerated, RunScript, Top, form_of}
+use Rattle.rs_run.specs.Words.{Form, RunGenerated, RunScript, Threshold, Top, form_of}
 use Rattle.rs_run.specs.Top.{top_lines}
-use Rattle.rs_run.specs.Plain.{HasStatements, ScriptRuns, source_of}
+use Rattle.rs_run.specs.Plain.{HasStatements, ScriptRuns, as_it_is, source_of}
+use Rattle.rs_run.specs.Threshold.{ScansRun}
 use Rattle.rs_expr.specs.Scoring.{Answering}
 use Rattle.rs_events.specs.Events.{Finds}
 use Rattle.rs_statement.specs.Steps.{Run}
@@ -21,23 +22,29 @@ use Rattle.rs_statement.specs.Statements.{IsNoExplain}
 
 -- the run of the script of this name, whose queries are evaluated so
 abbrev pub IsScriptRun : Finds → Answering → List ℕ → Evaluating → Run → Type 0
-IsScriptRun finds answer name evaluating run = ScriptRuns finds (StatementsRun finds answer evaluating) name run
+IsScriptRun finds answer name evaluating run = ScriptRuns as_it_is finds (StatementsRun finds answer evaluating) name run
 
 -- the run of the generated script: what the word `run` does over the generated files with the number as its seed, without its fetches
 abbrev pub IsGeneratedRun : Answering → ℕ → ℕ → Run → Type 0
 IsGeneratedRun answer number rows run =
     (whole : Run) × IsScriptRun (finds_generated number rows) answer script_name (Planned (ByScores number)) whole × (run ≡ unfetched whole)
 
--- the run of a form
+-- the run of a form whose faults are those of statements; no other form has such a run
 abbrev pub IsRunOf : Finds → Answering → Form → Run → Type 0
 IsRunOf finds answer (Top top) run = (there : Option (List ℕ)) × finds top.file there × (run ≡ fetch_then top.file (top_lines top there))
 IsRunOf finds answer (RunScript name evaluating) run = IsScriptRun finds answer name evaluating run
 IsRunOf finds answer (RunGenerated number rows) run = IsGeneratedRun answer number rows run
+IsRunOf finds answer _ run = ⊥
+
+-- the run of a form: one with faults of its own, or one whose faults are those of statements
+abbrev pub IsFormRun : Finds → Answering → Form → WordsRun → Type 0
+IsFormRun finds answer (Threshold name) run = ScriptRuns Statement finds (ScansRun finds answer) name run
+IsFormRun finds answer form run = (own : Run) × IsRunOf finds answer form own × (run ≡ with_fault Statement own)
 
 -- the run of words of this form; where they are of none, it ends at once
 abbrev pub OfForm : Finds → Answering → Option Form → WordsRun → Type 0
 OfForm finds answer None run = run ≡ fails Usage
-OfForm finds answer (Some form) run = (own : Run) × IsRunOf finds answer form own × (run ≡ with_fault Statement own)
+OfForm finds answer (Some form) run = IsFormRun finds answer form run
 
 -- the run of these words
 abbrev pub IsRun : Finds → Answering → List (List ℕ) → WordsRun → Type 0

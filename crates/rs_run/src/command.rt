@@ -2,12 +2,11 @@ ghost use Rattle.std.specs.Prelude.{◌≡◌, ◌≢◌, ◌⊎◌, ℕ, None, 
 ghost use Rattle.rs_value.specs.Outside.{Faulted};
 ghost use Rattle.rs_events.specs.Environment.{Environment, KeepsEnvironment, environment};
 ghost use Rattle.rs_events.specs.Events.{finds_in};
-ghost use Rattle.rs_events.specs.Running as running;
-ghost use Rattle.rs_statement.specs.Parts.Steps.{Runs};
+ghost use Rattle.rs_events.specs.Running.{Runs};
 ghost use Rattle.rs_run.specs.Faults.{run_faults};
 ghost use Rattle.rs_run.specs.Outcome.{FormRunsTo, RunsTo};
 ghost use Rattle.rs_run.specs.Parts.CommandLine.{form_of_command_line};
-ghost use Rattle.rs_run.specs.Running.{IsRun, IsRunOf};
+ghost use Rattle.rs_run.specs.Running.{IsFormRun, IsRun};
 ghost use Rattle.rs_run.specs.Words.{RunGenerated, RunScript, form_of};
 
 use crate::fault::RunFault;
@@ -16,11 +15,12 @@ use crate::plain::run_script;
 use crate::readers::Readers;
 use crate::report::report;
 use crate::status::Status;
+use crate::threshold::run_by_scan;
 use crate::top::top;
 use crate::words::{CommandLine, command_line_of};
 use rs_expr::Scorer;
 use rs_outside::{Files, Sink};
-use rs_statement::{Evaluating, Fault};
+use rs_statement::Evaluating;
 use rs_table::TableReader;
 use rs_value::Text;
 use std::alloc::Global;
@@ -106,13 +106,13 @@ fn answer<F: Files, S: Scorer, O: Sink>(
     scorer: &mut S,
     out: &mut O,
 ) -> Result<(), RunFault>
-    ensures does { (beside : Environment) → running.Runs run_faults (IsRun (finds_in (F.state files.old).told) (S.state scorer.old).answer words.now) result
+    ensures does { (beside : Environment) → Runs run_faults (IsRun (finds_in (F.state files.old).told) (S.state scorer.old).answer words.now) result
         (record beside { files = F.state files.old; scorer = S.state scorer.old; out = O.state out.old })
         (record beside { files = F.state files.new; scorer = S.state scorer.new; out = O.state out.new }) }
     ensures unfetched { (number rows : ℕ) → form_of words.now ≡ Some (RunGenerated number rows) → F.state files.new ≡ F.state files.old }
 {
     match command_line_of(words) {
-        Some(command) => Ok(obey(alloc, command, files, scorer, out)?),
+        Some(command) => obey(alloc, command, files, scorer, out),
         None => Err(RunFault::Usage),
     }
 }
@@ -124,29 +124,37 @@ fn obey<F: Files, S: Scorer, O: Sink>(
     files: &mut F,
     scorer: &mut S,
     out: &mut O,
-) -> Result<(), Fault>
-    ensures does { (beside : Environment) → Runs
-        (IsRunOf (finds_in (F.state files.old).told) (S.state scorer.old).answer (form_of_command_line command.entry)) result
+) -> Result<(), RunFault>
+    ensures does { (beside : Environment) → Runs run_faults
+        (IsFormRun (finds_in (F.state files.old).told) (S.state scorer.old).answer (form_of_command_line command.entry)) result
         (record beside { files = F.state files.old; scorer = S.state scorer.old; out = O.state out.old })
         (record beside { files = F.state files.new; scorer = S.state scorer.new; out = O.state out.new }) }
     ensures unfetched { (number rows : ℕ) → form_of_command_line command.entry ≡ RunGenerated number rows → F.state files.new ≡ F.state files.old }
 {
     match command {
-        CommandLine::Top(words) => top(
-            alloc,
-            words.file,
-            words.column,
-            words.max,
-            words.count,
-            files,
-            out,
-        ),
+        CommandLine::Top(words) => {
+            top(
+                alloc,
+                words.file,
+                words.column,
+                words.max,
+                words.count,
+                files,
+                out,
+            )?;
+            Ok(())
+        }
         CommandLine::RunScript(script, evaluating) => {
             let readers = &mut Readers::new();
-            run_script(alloc, evaluating, script, readers, files, scorer, out)
+            run_script(alloc, evaluating, script, readers, files, scorer, out)?;
+            Ok(())
         }
         CommandLine::RunGenerated(number, rows) => {
-            run_generated(alloc, files.hash_keys(), number, rows, scorer, out)
+            run_generated(alloc, files.hash_keys(), number, rows, scorer, out)?;
+            Ok(())
+        }
+        CommandLine::Threshold(script) => {
+            run_by_scan(alloc, script, &mut Readers::new(), files, scorer, out)
         }
     }
 }

@@ -1,21 +1,41 @@
 ghost use Rattle.std.specs.Prelude.{◌≡◌, IfOk, Some};
 ghost use Rattle.std.specs.String.{string_bytes};
-ghost use Rattle.rs_run.specs.Faults.{run_fault_line, status_of};
+ghost use Rattle.rs_run.specs.Faults.{run_fault_line, status_of, word_name};
 
 use crate::status::Status;
+use rs_events::HaltFault;
+use rs_outside::SinkFault;
 use rs_statement::Fault;
 use rs_value::Memory;
 use std::alloc::Global;
 
 /// The line of words that are of no form. It grows with the words, so it stands above all that one word does.
 const USAGE: &str =
-    "usage: ranksql top FILE COLUMN MAX K, run SCRIPT SEED, plain SCRIPT, gen NUMBER ROWS\n";
+    "usage: ranksql top FILE COLUMN MAX K, run SCRIPT SEED, plain SCRIPT, gen NUMBER ROWS, ta SCRIPT\n";
+
+/// A word of the command line whose scripts may have some statements alone.
+#[derive(Clone, Copy, Debug, PartialEq, Eq)]
+pub enum ScriptWord {
+    Ta,
+}
+
+impl ScriptWord {
+    fn name(self) -> &'static str
+        ensures { result.now ≡ word_name self }
+    {
+        match self {
+            ScriptWord::Ta => "ta",
+        }
+    }
+}
 
 /// What ends a run early, with what its line on standard error tells.
 #[derive(Debug, Drop)]
 pub enum RunFault {
     /// The words of the command line are of no form.
     Usage,
+    /// The statement of this number, counted from 1, is none that the word takes.
+    NotEligible { word: ScriptWord, statement: usize },
     /// A fault of `top` or of a script.
     Statement(Fault),
 }
@@ -30,6 +50,30 @@ impl From<Fault> for RunFault {
     }
 }
 
+impl From<Memory> for RunFault {
+    ghost use Rattle.rs_run.specs.declared.fault.RunFault.TheVariants as run_fault;
+    ghost use Rattle.rs_statement.specs.declared.fault.Fault.TheVariants as fault;
+
+    ghost from_gives = { λ _ f. f ≡ run_fault.Statement fault.Memory };
+
+    fn from(_memory: Memory) -> RunFault {
+        RunFault::Statement(Fault::Memory)
+    }
+}
+
+impl HaltFault for RunFault {
+    ghost use Rattle.rs_run.specs.Faults.{run_faults};
+
+    ghost faults = { run_faults };
+
+    fn of_put(why: SinkFault) -> RunFault {
+        match why {
+            SinkFault::Failed => RunFault::Statement(Fault::Write),
+            SinkFault::Memory => RunFault::Statement(Fault::Memory),
+        }
+    }
+}
+
 impl RunFault {
     /// The status of a run that ends with this fault.
     pub fn status(&self) -> Status
@@ -37,6 +81,7 @@ impl RunFault {
     {
         match self {
             RunFault::Usage => Status::Usage,
+            RunFault::NotEligible { .. } => Status::Script,
             RunFault::Statement(why) => statement_status(why),
         }
     }
@@ -47,6 +92,10 @@ impl RunFault {
     {
         match self {
             RunFault::Usage => Ok(String::from_str(alloc, USAGE)?),
+            RunFault::NotEligible { word, statement } => {
+                let word = word.name();
+                Ok(format!(in alloc; "script: {word} NotEligible statement {statement}\n")?)
+            }
             RunFault::Statement(why) => why.line(alloc),
         }
     }

@@ -14,11 +14,12 @@ mod readers;
 mod report;
 mod statement;
 mod status;
+mod threshold;
 mod top;
 mod words;
 
 pub use command::{run, run_file};
-pub use fault::RunFault;
+pub use fault::{RunFault, ScriptWord};
 pub use known_script::KnownScript;
 pub use laws::{cursors_keep_their_rows, one_run, plain_and_run_agree, words_have_a_run};
 pub use readers::Readers;

@@ -3,7 +3,7 @@ ghost use Rattle.rs_value.specs.Answer.{Gives};
 ghost use Rattle.rs_value.specs.Text.{text_of};
 ghost use Rattle.rs_statement.specs.Parts.Steps.{FetchesFile, Runs};
 ghost use Rattle.rs_run.specs.Parts.Read.{IsSource};
-ghost use Rattle.rs_run.specs.Plain.{TextRuns, or_text_fault, without_mark};
+ghost use Rattle.rs_run.specs.Plain.{TextRuns, as_it_is, or_text_fault, without_mark};
 ghost use Rattle.rs_events.specs.Events.{finds_in};
 ghost use Rattle.rs_run.specs.Running.{IsRunOf};
 ghost use Rattle.rs_statement.specs.Session.{StatementsRun};
@@ -45,7 +45,11 @@ pub fn run_script<T: TableReader, F: Files, S: Scorer, O: Sink>(
 }
 
 /// Fetches the text of a script, without the byte order mark at its start.
-fn fetch_script<F: Files>(alloc: Global, name: &Text, files: &mut F) -> Result<Text, Fault>
+pub(crate) fn fetch_script<F: Files>(
+    alloc: Global,
+    name: &Text,
+    files: &mut F,
+) -> Result<Text, Fault>
     ensures fetches { FetchesFile name.now result (IsSource name.now) (F.state files.old) (F.state files.new) }
     ensures small { IfOk result (λ script. length script ≤ 1048576) }
 {
@@ -86,7 +90,7 @@ fn run_text<T: TableReader, W: Host>(
 ) -> Result<(), Fault>
     requires { length script ≤ 1048576 }
     ensures { Runs
-        (TextRuns (StatementsRun (finds_in (W.state host.old).files.told) (W.state host.old).scorer.answer evaluating) script) result
+        (TextRuns as_it_is (StatementsRun (finds_in (W.state host.old).files.told) (W.state host.old).scorer.answer evaluating) script) result
         (W.state host.old) (W.state host.new) }
 {
     readers.script.read(alloc, script)?;

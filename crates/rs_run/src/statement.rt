@@ -94,7 +94,7 @@ fn run_statement<T: TableReader, W: Host>(
 }
 
 /// Runs a statement that concerns no cursor.
-fn run_without_cursor<T: TableReader, W: Host>(
+pub(crate) fn run_without_cursor<T: TableReader, W: Host>(
     alloc: Global,
     evaluating: Evaluating,
     statement: &Statement,

@@ -7,7 +7,7 @@ use Rattle.rs_syntax.specs.contracts.statement.Statement as statement
 use Rattle.rs_syntax.specs.declared.statement.Statement.{Statement}
 use Rattle.rs_statement.specs.declared.fault.Fault.{Fault}
 use Rattle.rs_events.specs.Run.{fails}
-use Rattle.rs_run.specs.Plain.{HasStatements, TextRuns}
+use Rattle.rs_run.specs.Plain.{HasStatements, TextRuns, as_it_is}
 
 -- a text, and the statements that it is made of
 pub record ScriptRead : Type 0 where
@@ -21,7 +21,7 @@ pub record IsScriptRead (read : ScriptRead) : Type 0 where
 
 -- a text is refused with this fault, whatever statements do
 abbrev pub IsRefused : List ℕ → Fault → Type 0
-IsRefused text fault = TextRuns (λ commands run. ⊥) text (fails fault)
+IsRefused text fault = TextRuns as_it_is (λ commands run. ⊥) text (fails fault)
 
 -- how the logic stores it: as the tuple of its fields
 abbrev pub script_code : Coded ScriptRead

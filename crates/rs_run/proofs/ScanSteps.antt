@@ -1,0 +1,152 @@
+-- What the statements of a script did whose queries are answered by scans, from what their parts did.
+use Rattle.std.proofs.Common.{ℕ, suc, ◌≡◌, ◌∙◌, List, [], ◌∷◌, Some, None, refl, sym, ap, subst, inl, inr}
+use Rattle.std.specs.Prelude.{IfOk, Option, Result, Ok, Err, option_map}
+use Rattle.rs_value.specs.Answer.{Gives}
+use Rattle.rs_syntax.specs.Syntax.{Ask, Close, Command, CreatePredicate, CreateRankIndex, CreateTable, Declare, Explain, ExplainAnalyze, Insert}
+use Rattle.rs_syntax.specs.Syntax as syntax
+use Rattle.rs_expr.specs.Scoring.{Answering}
+use Rattle.rs_catalog.specs.Catalog.{CatalogDef}
+use Rattle.rs_query.specs.declared.block.Block.{Block}
+use Rattle.rs_query.specs.declared.query.Query.{Query}
+use Rattle.rs_query.specs.declared.query.Query.TheVariants.{One}
+use Rattle.rs_ta.specs.Depths.{ScanInput}
+use Rattle.rs_ta.specs.Eligible.{block_input, eligible_indexes}
+use Rattle.rs_events.specs.Environment.{Environment}
+use Rattle.rs_events.specs.Events.{Event, Finds, fetches, finds_in}
+use Rattle.rs_events.specs.Run.{Run, lines_run, with_fault}
+use Rattle.rs_events.specs.Running.{HasDone, Ran, Stepped}
+use Rattle.rs_events.specs.Sequence.{Step, run_of, still}
+use Rattle.rs_events.proofs.SteppedFacts.{Stepped-is, Stepped-lines, Stepped-map, Stepped-no_memory, Stepped-still}
+use Rattle.rs_events.proofs.ToldFacts.{Ran-told_err, Ran-told_ok}
+use Rattle.rs_statement.specs.declared.evaluating.Evaluating.TheVariants.{Plainly}
+use Rattle.rs_statement.specs.declared.fault.Fault.{Fault}
+use Rattle.rs_statement.specs.declared.fault.Fault.TheVariants.{Memory}
+use Rattle.rs_statement.specs.Statements.{Does}
+use Rattle.rs_statement.specs.Steps as statement
+use Rattle.rs_statement.specs.Steps.{statement_faults}
+use Rattle.rs_statement.proofs.StatementFacts.{Does-finds, finds-after}
+use Rattle.rs_run.specs.declared.fault.RunFault.{RunFault}
+use Rattle.rs_run.specs.declared.fault.RunFault.TheVariants.{NotEligible, Statement}
+use Rattle.rs_run.specs.declared.fault.ScriptWord.TheVariants.{Ta}
+use Rattle.rs_run.specs.Faults.{run_faults}
+use Rattle.rs_run.specs.Threshold.{DoesByScan, DoesNext, ScanState, counted_step, scan_for, scan_lines, scan_of, scan_step, scanned_or}
+use Rattle.rs_run.specs.Told.{told_result, told_step}
+use Rattle.rs_run.proofs.RunFacts.{statement-faults}
+
+-- the run of a step whose fault is told as one of words
+run_of-told : {S : Type 0} (step : statement.Step S) → run_of (told_step Statement step) ≡ with_fault Statement (run_of step)
+run_of-told {S} step = go step.outcome where
+  go : (outcome : Result S Fault) → run_of (record { events = step.events; outcome = told_result Statement outcome }) ≡ with_fault Statement (run_of (record { events = step.events; outcome = outcome }))
+  go (Ok next) = refl
+  go (Err fault) = refl
+
+-- a step of statements, told so
+abbrev pub IsTold : {S : Type 0} → (statement.Step S → Type 0) → Step RunFault S → Type 0
+IsTold {S} of step = (own : statement.Step S) × of own × (step ≡ told_step Statement own)
+
+module _ {S : Type 0} (of : statement.Step S → Type 0) (left : S) (old new : Environment) where
+  pub Stepped-told_ok : Stepped statement_faults of left (Ok tt) old new → Stepped run_faults (IsTold of) left (Ok tt) old new
+  Stepped-told_ok stepped = record {
+    step = told_step Statement stepped.step;
+    does = (stepped.step, stepped.does, refl);
+    ran = subst (λ (run : Run RunFault). Ran run_faults run (Ok tt) old new) (sym (run_of-told stepped.step))
+        (Ran-told_ok Statement statement_faults run_faults statement-faults (run_of stepped.step) old new stepped.ran);
+    leaves = ap (told_result Statement) stepped.leaves;
+  }
+
+  pub Stepped-told_err : (fault : Fault) → Stepped statement_faults of left (Err fault) old new → Stepped run_faults (IsTold of) left (Err (Statement fault)) old new
+  Stepped-told_err fault stepped = record {
+    step = told_step Statement stepped.step;
+    does = (stepped.step, stepped.does, refl);
+    ran = subst (λ (run : Run RunFault). Ran run_faults run (Err (Statement fault)) old new) (sym (run_of-told stepped.step))
+        (Ran-told_err Statement statement_faults run_faults statement-faults (run_of stepped.step) old new fault stepped.ran);
+    leaves = tt;
+  }
+
+-- what a statement does where files hold as much
+DoesByScan-finds : (a b : Finds) → ((name : List ℕ) (there : Option (List ℕ)) → a name there → b name there) → (answer : Answering) (number : ℕ) (catalogue : CatalogDef) (command : Command)
+    (step : Step RunFault CatalogDef) → DoesByScan a answer number catalogue command step → DoesByScan b answer number catalogue command step
+DoesByScan-finds a b more answer number catalogue command step = go command where
+  told : (command : Command) → IsTold (Does a answer Plainly catalogue command) step → IsTold (Does b answer Plainly catalogue command) step
+  told command does = (does.0, Does-finds a b more answer Plainly catalogue command does.0 does.1, does.2)
+
+  go : (command : Command) → DoesByScan a answer number catalogue command step → DoesByScan b answer number catalogue command step
+  go (Ask query) does = does
+  go (Declare name query) does = does
+  go (syntax.Fetch count name) does = does
+  go (Close name) does = does
+  go (Explain query) does = does
+  go (ExplainAnalyze query) does = does
+  go (CreateTable name columns file) does = told (CreateTable name columns file) does
+  go (CreatePredicate name params max cost formula) does = told (CreatePredicate name params max cost formula) does
+  go (CreateRankIndex name table predicate args at) does = told (CreateRankIndex name table predicate args at) does
+  go (Insert table rows) does = told (Insert table rows) does
+
+pub DoesNext-finds : (a b : Finds) → ((name : List ℕ) (there : Option (List ℕ)) → a name there → b name there) → (answer : Answering) (state : ScanState) (command : Command)
+    (step : Step RunFault ScanState) → DoesNext a answer state command step → DoesNext b answer state command step
+DoesNext-finds a b more answer state command step does =
+    (does.0, DoesByScan-finds a b more answer state.number state.catalogue command does.0 does.1, does.2)
+
+-- a statement, before the one of the next number, behind events that were done: it does what it does over what was there at first
+run_of-counted : (number : ℕ) (step : Step RunFault CatalogDef) → run_of (counted_step number step) ≡ run_of step
+run_of-counted number step = go step.outcome where
+  go : (outcome : Result CatalogDef RunFault) → run_of (counted_step number (record { events = step.events; outcome = outcome })) ≡ run_of (record { events = step.events; outcome = outcome })
+  go (Ok next) = refl
+  go (Err fault) = refl
+
+pub Stepped-next : (made : List Event) (number next : ℕ) (catalogue left : CatalogDef) (command : Command) (result : Result (Unit {0}) RunFault) (old middle new : Environment) → next ≡ suc number
+    → HasDone made old middle → Stepped run_faults (DoesByScan (finds_in middle.files.told) middle.scorer.answer number catalogue command) left result middle new
+    → Stepped run_faults (DoesNext (finds_in old.files.told) old.scorer.answer (record { number = number; catalogue = catalogue }) command) (record { number = next; catalogue = left }) result middle new
+Stepped-next made number next catalogue left command result old middle new is_next has stepped = record {
+  step = counted_step number stepped.step;
+  does = (
+    stepped.step,
+    DoesByScan-finds (finds_in middle.files.told) (finds_in old.files.told) (finds-after old.files.told middle.files.told (fetches made) has.all.fetched) old.scorer.answer number catalogue command stepped.step
+        (subst (λ answer. DoesByScan (finds_in middle.files.told) answer number catalogue command stepped.step) has.keeps.scorer.answer stepped.does),
+    refl,
+  );
+  ran = subst (λ (run : Run RunFault). Ran run_faults run result middle new) (sym (run_of-counted number stepped.step)) stepped.ran;
+  leaves = leaves result stepped.leaves;
+} where
+  leaves : (result : Result (Unit {0}) RunFault) → IfOk result (λ done. stepped.step.outcome ≡ Ok left)
+      → IfOk result (λ done. (counted_step number stepped.step).outcome ≡ Ok (record { number = next; catalogue = left }))
+  leaves (Ok done) is =
+      ap (λ (outcome : Result CatalogDef RunFault). (counted_step number (record { events = stepped.step.events; outcome = outcome })).outcome) is
+      ∙ ap (λ (n : ℕ). Ok (record { number = n; catalogue = left })) (sym is_next)
+  leaves (Err fault) is = tt
+
+-- a query that isn't bound, or for which there was no memory
+module _ (answer : Answering) (number : ℕ) (catalogue : CatalogDef) (environment : Environment) where
+  pub Stepped-unbound : (bound : Result Query Fault) (fault : Fault) → Gives Memory bound (Err fault)
+      → Stepped run_faults (λ step. step ≡ scanned_or answer number catalogue bound) catalogue (Err (Statement fault)) environment environment
+  Stepped-unbound bound fault (inl e) =
+      subst (λ (bound : Result Query Fault). Stepped run_faults (λ step. step ≡ scanned_or answer number catalogue bound) catalogue (Err (Statement fault)) environment environment) e
+      (Stepped-still (λ step. step ≡ still (Err (Statement fault))) (Err (Statement fault)) catalogue (Err (Statement fault)) environment refl (inr refl))
+  Stepped-unbound bound fault (inr e) =
+      let same : fault ≡ Memory = cc in
+      subst (λ (fault : Fault). Stepped run_faults (λ step. step ≡ scanned_or answer number catalogue bound) catalogue (Err (Statement fault)) environment environment) (sym same)
+      (Stepped-no_memory (λ step. step ≡ scanned_or answer number catalogue bound) (scanned_or answer number catalogue bound) catalogue environment refl)
+
+  -- a query that isn't eligible
+  pub Stepped-ineligible : (query : Query) (why : RunFault) → scan_for catalogue query ≡ None → why ≡ NotEligible Ta number
+      → Stepped run_faults (λ step. step ≡ scan_step answer number catalogue query) catalogue (Err why) environment environment
+  Stepped-ineligible query why none is =
+      subst (λ (scan : Option ScanInput). Stepped run_faults (λ step. step ≡ scan_of answer number catalogue query scan) catalogue (Err why) environment environment) (sym none)
+      (Stepped-still (λ step. step ≡ still (Err (NotEligible Ta number))) (Err (NotEligible Ta number)) catalogue (Err why) environment refl (inr (ap Err (sym is))))
+
+-- a query that was bound
+pub Stepped-bound : (answer : Answering) (number : ℕ) (catalogue : CatalogDef) (bound : Result Query Fault) (query : Query) (result : Result (Unit {0}) RunFault) (old new : Environment) → Gives Memory bound (Ok query)
+    → Stepped run_faults (λ step. step ≡ scan_step answer number catalogue query) catalogue result old new → Stepped run_faults (λ step. step ≡ scanned_or answer number catalogue bound) catalogue result old new
+Stepped-bound answer number catalogue bound query result old new gives stepped =
+    subst (λ (bound : Result Query Fault). Stepped run_faults (λ step. step ≡ scanned_or answer number catalogue bound) catalogue result old new) (sym (bound-ok gives)) stepped where
+      bound-ok : Gives Memory bound (Ok query) → bound ≡ Ok query
+      bound-ok (inl e) = sym e
+      bound-ok (inr e) = absurd cc
+
+-- an eligible one: its lines were put
+pub Stepped-scanned : (answer : Answering) (number : ℕ) (catalogue : CatalogDef) (block : Block) (limit : Option ℕ) (indexes : List ℕ) (result : Result (Unit {0}) RunFault) (old new : Environment)
+    → eligible_indexes catalogue block ≡ Some indexes → Ran run_faults (lines_run (scan_lines answer catalogue (One block limit) (block_input catalogue block indexes))) result old new
+    → Stepped run_faults (λ step. step ≡ scan_step answer number catalogue (One block limit)) catalogue result old new
+Stepped-scanned answer number catalogue block limit indexes result old new eligible ran =
+    subst (λ (found : Option (List ℕ)). Stepped run_faults (λ step. step ≡ scan_of answer number catalogue (One block limit) (option_map (block_input catalogue block) found)) catalogue result old new) (sym eligible)
+    (Stepped-lines (scan_lines answer catalogue (One block limit) (block_input catalogue block indexes)) catalogue result old new ran)

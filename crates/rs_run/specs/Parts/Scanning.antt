@@ -1,0 +1,57 @@
+-- A threshold scan over the rank indexes of a block, while its rows are put.
+use Rattle.std.specs.Prelude.{ℕ, ◌≡◌, ◌-◌, ◌^◌, false, List, [], ◌∷◌, ◌++◌, map, Option, Some, None, codes}
+use Rattle.std.specs.Fmt.{decimal}
+use Rattle.rs_rank.specs.declared.answer.Answer.{Answer}
+use Rattle.rs_rank.specs.declared.row.RankRow.{RankRow}
+use Rattle.rs_catalog.specs.Catalog.{CatalogDef}
+use Rattle.rs_query.specs.Answers.{cut}
+use Rattle.rs_query.specs.Tables.{size_of}
+use Rattle.rs_query.specs.declared.block.Block.{Block}
+use Rattle.rs_ta.specs.BlockTests.{BlockTestState, holds_on}
+use Rattle.rs_ta.specs.Depths.{ScanInput, answers, ids_at}
+use Rattle.rs_ta.specs.Eligible.{answer_for}
+use Rattle.rs_ta.specs.IndexLists.{IndexListsState, index_lists_state}
+use Rattle.rs_ta.specs.Lists.{IsRow, rows_in}
+use Rattle.rs_ta.specs.Scans.{HaveWeights, Scan, Stands, asks_of, input_of}
+
+-- what the scan of a block is over, whose conditions are this test
+abbrev pub scan_input : BlockTestState → Scan → IndexListsState → ScanInput
+scan_input test scan lists = input_of scan (index_lists_state lists) (holds_on test.catalogue test.block)
+
+-- the scan of a block stands where its asks so far left it
+pub record IsScanning (test : BlockTestState) (scan : Scan) (lists : IndexListsState) : Type 0 where
+  pub entry_is : scan.entry ≡ 1
+  pub block_is : scan.block ≡ 1
+  pub stands : Stands (scan_input test scan lists) scan (index_lists_state lists)
+  pub have : HaveWeights (scan_input test scan lists)
+  pub same_rows : size_of test.catalogue test.block 1 ≡ rows_in (index_lists_state lists).lists
+
+-- it wasn't asked yet
+pub record IsUnasked (scan : Scan) : Type 0 where
+  pub given : scan.given ≡ 0
+  pub open_is : scan.ended ≡ false
+
+-- the rows of the scan, as rows of the answer, as many as LIMIT says at most
+abbrev pub scanned_rows : BlockTestState → Option ℕ → ScanInput → List Answer
+scanned_rows test limit i = cut limit (map (answer_for test.catalogue test.block) (answers i))
+
+-- the scan over this input and its lists stand behind this many asks
+pub record IsAsked (i : ScanInput) (asks : ℕ) (scan : Scan) (lists : IndexListsState) : Type 0 where
+  pub stands : Stands i scan (index_lists_state lists)
+  pub lists_are : i.lists ≡ (index_lists_state lists).lists
+  pub asks_are : asks_of scan ≡ asks
+
+-- the most asks of a scan: as many as LIMIT says, or as many as can be counted
+abbrev pub most_asks : Option ℕ → ℕ
+most_asks None = 2 ^ 64 - 1
+most_asks (Some limit) = limit
+
+-- a row of the only FROM entry of a block
+pub record IsBlockRow (catalogue : CatalogDef) (block : Block) (row : RankRow) : Type 0 where
+  pub number : ℕ
+  pub is_row : IsRow (size_of catalogue block 1) number
+  pub ids_are : row.ids ≡ ids_at 1 1 number
+
+-- the line of accesses
+abbrev pub accesses_text : ℕ → ℕ → ℕ → List ℕ
+accesses_text depth sorted random = codes "depth=" ++ decimal depth ++ codes " sorted=" ++ decimal sorted ++ codes " random=" ++ decimal random ++ 10 ∷ []
