@@ -1,5 +1,5 @@
 -- The run of the word `feed`, put together from what its parts did.
-use Rattle.std.proofs.Common.{ℕ, ◌≡◌, ◌∙◌, ◌⊎◌, List, [], ◌∷◌, Option, Some, None, Result, Ok, Err, refl, sym, ap, subst, inl, inr}
+use Rattle.std.proofs.Common.{ℕ, zero, suc, ◌≡◌, ◌∙◌, ◌⊎◌, List, [], ◌∷◌, Option, Some, None, Result, Ok, Err, refl, sym, ap, subst, inl, inr}
 use Rattle.std.specs.Prelude.{option_map}
 use Rattle.rs_value.specs.Outside.{Outside}
 use Rattle.rs_value.specs.Results.{◌>>=◌}
@@ -8,19 +8,23 @@ use Rattle.rs_outside.specs.declared.files.FetchFault.TheVariants as fetch
 use Rattle.rs_feed.specs.declared.feed_row.FeedRow.{FeedRow}
 use Rattle.rs_table_feed.specs.TableFeeds.{TableFeedState, new_feed}
 use Rattle.rs_events.specs.Environment.{Environment}
-use Rattle.rs_events.specs.Events.{Fetch, Finds, finds_in}
+use Rattle.rs_events.specs.Events.{Fetch, Finds, calls, finds_in}
 use Rattle.rs_events.specs.Fetching.{FetchFails, Fetched, FetchesFile, NotFetched}
 use Rattle.rs_events.specs.HaltFaults.{IsFaultOf}
 use Rattle.rs_events.specs.Halts.{CallFailed, Ended, FetchFailed, Halt, NoMemory, PutFailed, fetched_more}
 use Rattle.rs_events.specs.Run.{Run, behind, fails}
 use Rattle.rs_events.specs.Running.{Ran, Runs}
 use Rattle.rs_events.proofs.FetchFacts.{Ran-unfetched, fetched-ok}
+use Rattle.rs_events.proofs.OneRun.{OneFile}
 use Rattle.rs_events.proofs.RanFacts.{Ran-behind}
+use Rattle.rs_feed_join.specs.declared.fault.JoinFault.{JoinFault}
+use Rattle.rs_feed_join.specs.declared.feed_pair.FeedPair.{FeedPair}
+use Rattle.rs_feed_join.specs.Answers.{next_answer}
 use Rattle.rs_words.specs.declared.fault.WordFault.{WordFault}
 use Rattle.rs_words.specs.declared.fault.WordFault.TheVariants.{Memory, Read}
 use Rattle.rs_words.specs.Faults.{feed_faults, put_faults}
 use Rattle.rs_words.specs.FeedFiles.{IsFeedFile, feed_file}
-use Rattle.rs_words.specs.Feeding.{FeedWords, IsFeedRun, LeftRun, pairs_run, right_run}
+use Rattle.rs_words.specs.Feeding.{FeedWords, IsFeedRun, LeftRun, call_run, pairs_from, pairs_run, right_run}
 
 -- a run of puts alone has the same faults where fetches are told too
 module _ (left right : List ℕ) where
@@ -146,3 +150,42 @@ module _ (words : FeedWords) (environment : Environment) (lefts : Outside FilesT
           ran = Ran-behind (Fetch words.left ∷ []) (behind (Fetch words.right ∷ []) (right_run left.rows words.count (feed_file 2 s.there))) result environment middle new read.has
               (Ran-behind (Fetch words.right ∷ []) (right_run left.rows words.count (feed_file 2 s.there)) result middle (record environment { files = rights }) new other.has rest);
         }
+
+-- the word has a run, and one alone where a name has one file
+pub some-feed_run : (finds : Finds) → ((name : List ℕ) → (there : Option (List ℕ)) × finds name there) → (words : FeedWords) → (run : Run WordFault) × IsFeedRun finds words run
+some-feed_run finds has words =
+    let left = has words.left in
+    let more = left-run finds words (feed_file 1 left.0) (has words.right) in
+    (behind (Fetch words.left ∷ []) more.0, left.0, left.1, more.0, more.1, refl)
+
+LeftRun-one : (finds : Finds) → OneFile finds → (words : FeedWords) (lefts : Result (List FeedRow) WordFault) (a b : Run WordFault) → LeftRun finds words lefts a → LeftRun finds words lefts b → a ≡ b
+LeftRun-one finds one words (Err fault) a b p q = p ∙ sym q
+LeftRun-one finds one words (Ok lefts) a b p q =
+    p.2 ∙ ap (λ there. behind (Fetch words.right ∷ []) (right_run lefts words.count (feed_file 2 there))) (one words.right p.0 q.0 p.1 q.1) ∙ sym q.2
+
+pub IsFeedRun-one : (finds : Finds) → OneFile finds → (words : FeedWords) (a b : Run WordFault) → IsFeedRun finds words a → IsFeedRun finds words b → a ≡ b
+IsFeedRun-one finds one words a b p q =
+    let same = LeftRun-one finds one words (feed_file 1 q.0) p.2 q.2 (subst (λ there. LeftRun finds words (feed_file 1 there) p.2) (one words.left p.0 q.0 p.1 q.1) p.3) q.3 in
+    p.4 ∙ ap (behind (Fetch words.left ∷ [])) same ∙ sym q.4
+
+-- it calls no scorer
+calls-call : (lefts rights : List FeedRow) (n : ℕ) (answer : Result (Option FeedPair) JoinFault) (more : Run WordFault) → calls more.events ≡ [] → calls (call_run lefts rights n answer more).events ≡ []
+calls-call lefts rights n (Ok (Some pair)) more e = e
+calls-call lefts rights n (Ok None) more e = refl
+calls-call lefts rights n (Err why) more e = refl
+
+calls-pairs : (lefts rights : List FeedRow) (n more : ℕ) → calls (pairs_from lefts rights n more).events ≡ []
+unfolding pairs_from
+calls-pairs lefts rights n zero = refl
+calls-pairs lefts rights n (suc more) = calls-call lefts rights n (next_answer lefts rights n) (pairs_from lefts rights (suc n) more) (calls-pairs lefts rights (suc n) more)
+
+calls-right : (lefts : List FeedRow) (count : ℕ) (rights : Result (List FeedRow) WordFault) → calls (right_run lefts count rights).events ≡ []
+calls-right lefts count (Err fault) = refl
+calls-right lefts count (Ok rights) = calls-pairs lefts rights 0 count
+
+calls-left : (finds : Finds) (words : FeedWords) (lefts : Result (List FeedRow) WordFault) (more : Run WordFault) → LeftRun finds words lefts more → calls more.events ≡ []
+calls-left finds words (Err fault) more is = ap (λ (run : Run WordFault). calls run.events) is
+calls-left finds words (Ok lefts) more is = ap (λ (run : Run WordFault). calls run.events) is.2 ∙ calls-right lefts words.count (feed_file 2 is.0)
+
+pub no-calls : (finds : Finds) (words : FeedWords) (run : Run WordFault) → IsFeedRun finds words run → calls run.events ≡ []
+no-calls finds words run is = ap (λ (run : Run WordFault). calls run.events) is.4 ∙ calls-left finds words (feed_file 1 is.0) is.2 is.3

@@ -28,10 +28,10 @@ rows_in file bytes = do
 abbrev pub feed_file : ℕ → Option (List ℕ) → Result (List FeedRow) WordFault
 feed_file file there = or_read file (fetched_bytes file_limit there) >>= rows_in file
 
--- the rows that a feed has before any draw
-abbrev pub rows_told : Result TableFeedState WordFault → Result (List FeedRow) WordFault
-rows_told result = result >>= λ feed. Ok feed.rows
+-- the feed of these rows, of which nothing is drawn
+abbrev pub undrawn : Result (List FeedRow) WordFault → Result TableFeedState WordFault
+undrawn rows = rows >>= λ rows. Ok (new_feed rows)
 
 -- the result has the rows of the file, and nothing is drawn; or it tells why the file is no feed
 abbrev pub IsFeedFile : ℕ → Option (List ℕ) → Result TableFeedState WordFault → Type 0
-IsFeedFile file there result = result ≡ (feed_file file there >>= λ rows. Ok (new_feed rows))
+IsFeedFile file there result = result ≡ undrawn (feed_file file there)

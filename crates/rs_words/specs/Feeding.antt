@@ -56,7 +56,7 @@ LeftRun finds words (Ok lefts) run =
 -- the run of the word
 abbrev pub IsFeedRun : Finds → FeedWords → Run WordFault → Type 0
 IsFeedRun finds words run =
-    (there : Option (List ℕ)) × finds words.left there × ((more : Run WordFault) × LeftRun finds words (feed_file 1 there) more × (run ≡ behind (Fetch words.left ∷ []) more))
+    (there : Option (List ℕ)) × finds words.left there × (more : Run WordFault) × LeftRun finds words (feed_file 1 there) more × (run ≡ behind (Fetch words.left ∷ []) more)
 
 -- what one call of the join did that puts its pair before any later draw
 abbrev pub PutsNext : List FeedRow → List FeedRow → ℕ → Result Bool WordFault → Environment → Environment → Type 0

@@ -4,9 +4,8 @@ ghost use Rattle.rs_table.specs.Relation.{most_rows};
 ghost use Rattle.rs_table_feed.specs.TableFeeds.{new_feed};
 ghost use Rattle.rs_events.specs.Fetching.{FetchesFile, fetched_bytes};
 ghost use Rattle.rs_feed_join.specs.Cuts.{HaveScores};
-ghost use Rattle.rs_value.specs.Results.{◌>>=◌};
 ghost use Rattle.rs_words.specs.Faults as told;
-ghost use Rattle.rs_words.specs.FeedFiles.{IsFeedFile, feed_columns, file_limit, rows_in};
+ghost use Rattle.rs_words.specs.FeedFiles.{IsFeedFile, feed_columns, file_limit, rows_in, undrawn};
 
 use crate::fault::WordFault;
 use rs_outside::{FetchFault, Files};
@@ -60,7 +59,7 @@ fn feed_in(
     bytes: &[u8],
 ) -> Result<TableFeed, WordFault>
     requires { length bytes.now ≤ file_limit }
-    ensures gives { Gives WordFault.Memory (rows_in file bytes.now >>= λ rows. Ok (new_feed rows)) result }
+    ensures gives { Gives WordFault.Memory (undrawn (rows_in file bytes.now)) result }
     ensures unused { IfOk result (λ feed. feed ≡ new_feed feed.rows) }
     ensures scores { IfOk result (λ feed. HaveScores feed.rows) }
     ensures few { IfOk result (λ feed. length feed.rows ≤ most_rows) }

@@ -6,9 +6,9 @@
 
 mod fault;
 mod feed_file;
-mod feed_word;
+mod feeding;
 mod joining;
 mod lines;
 
 pub use fault::WordFault;
-pub use feed_word::feed_word;
+pub use feeding::feed_word;

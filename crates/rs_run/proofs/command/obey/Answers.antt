@@ -15,3 +15,9 @@ returns-in-RunGenerated g c = rw c.in-RunGenerated.is (record {
   does = λ beside. c.run_generated.ensures (record beside { files = g.F.Files.state c.args.files.now });
   unfetched = λ number rows generated. refl;
 })
+
+pub returns-in-Feed : goal.returns-in-Feed
+returns-in-Feed g c = rw c.in-Feed.is (record {
+  does = λ beside. c.feed.ensures (record beside { files = g.F.Files.state c.args.files.now; scorer = g.S.Scorer.state c.args.scorer.now; out = g.O.Sink.state c.args.out.now });
+  unfetched = λ number rows generated. absurd cc;
+})

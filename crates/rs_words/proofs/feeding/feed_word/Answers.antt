@@ -2,7 +2,7 @@ use Rattle.std.proofs.Common.{refl}
 use Rattle.rs_value.proofs.ResultFacts.{given-err}
 use Rattle.rs_words.proofs.FeedingFacts.{undrawn}
 use Rattle.rs_words.proofs.RunFacts.{Ran-joined, Ran-no_left, Ran-no_right}
-use Rattle.rs_words.proofs.feed_word.feed_word.Goals as goal
+use Rattle.rs_words.proofs.feeding.feed_word.Goals as goal
 
 pub returns-in_err-left : goal.returns-in_err-left
 returns-in_err-left g c = λ beside.

@@ -1,5 +1,5 @@
 use Rattle.std.proofs.Common.{refl}
-use Rattle.rs_words.proofs.feed_word.put_next.Goals as goal
+use Rattle.rs_words.proofs.feeding.put_next.Goals as goal
 
 pub returns-in_err-next_pair-clause-puts : goal.returns-in_err-next_pair-clause-puts
 returns-in_err-next_pair-clause-puts g c = ?

@@ -6,7 +6,7 @@ use Rattle.rs_events.specs.Environment.{Environment}
 use Rattle.rs_words.specs.Feeding.{pairs_from, pairs_run}
 use Rattle.rs_words.specs.Joining.{IsJoining}
 use Rattle.rs_words.proofs.FeedingFacts.{IsDoneUpTo}
-use Rattle.rs_words.proofs.feed_word.put_pairs.Given as goal
+use Rattle.rs_words.proofs.feeding.put_pairs.Given as goal
 
 -- so many pairs were put, and so many draws made
 abbrev pub invariant-loop-index : goal.invariant-loop-index

@@ -1,4 +1,4 @@
-ghost use Rattle.std.specs.Prelude.{◌≡◌, ◌≤◌, suc, true, IfOk, OnOk};
+ghost use Rattle.std.specs.Prelude.{◌≡◌, suc, true, IfOk, OnOk};
 ghost use Rattle.rs_events.specs.Environment.{Environment};
 ghost use Rattle.rs_events.specs.Events.{finds_in};
 ghost use Rattle.rs_events.specs.Running.{Ran, Runs};
@@ -29,7 +29,6 @@ pub fn feed_word<F: Files, O: Sink>(
     files: &mut F,
     out: &mut O,
 ) -> Result<(), WordFault>
-    requires { k ≤ 1000000 }
     ensures { (beside : Environment) → Runs (feed_faults left.now right.now)
         (IsFeedRun (finds_in (F.state files.old).told) (record { left = left.now; right = right.now; count = k })) result
         (record beside { files = F.state files.old; out = O.state out.old }) (record beside { files = F.state files.new; out = O.state out.new }) }

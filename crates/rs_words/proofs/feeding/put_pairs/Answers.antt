@@ -1,7 +1,7 @@
 use Rattle.std.proofs.Common.{◌≡◌, ◌∙◌, ap, refl}
 use Rattle.rs_feed_join.specs.Joins.{FeedJoinState}
 use Rattle.rs_words.proofs.FeedingFacts.{all-put, draws-told, place-end, place-fault, place-next, puts-at, up-to-first}
-use Rattle.rs_words.proofs.feed_word.put_pairs.Goals as goal
+use Rattle.rs_words.proofs.feeding.put_pairs.Goals as goal
 
 pub loop-index-init : goal.loop-index-init
 loop-index-init g c = record {
