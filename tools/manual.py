@@ -130,6 +130,8 @@ def examples():
         *example(["$ ranksql plain examples/first.sql", *rows]),
         ".SS run", "The same script by a plan, with the seed 1, prints the same rows", *example(["$ ranksql run examples/first.sql 1", *rows]),
         ".SS gen", "Tables of one row, made from the number 0", *example(["$ ranksql gen 0 1", *blocks(generated)[-1]]),
+        ".SS feed", "The five best districts for a dinner and a bed, at the top of the repository",
+        *example(["$ ranksql feed examples/feeds/restaurants.csv examples/feeds/hotels.csv 5", *read("examples/feeds/best.out").splitlines()]),
     ]
 
 
@@ -149,7 +151,8 @@ def page():
         "Ranks the best few combinations of rows of several tables by a weighted sum of scores. A script makes tables from CSV files,",
         "predicates that give scores, and indexes by score, and asks queries. \\fBplain\\fR scores every combination and then prints.",
         "\\fBrun\\fR chooses a plan by a sample, prints each row before it looks for the next one, and calls predicates only as far as the",
-        "order of the rows needs. Both print the same rows in the same order.",
+        "order of the rows needs. Both print the same rows in the same order. \\fBfeed\\fR joins two files that are ranked already, and",
+        "draws no row of either that its pairs don't need.",
         ".SH WORDS",
         *entries(meanings),
         ".SH STATEMENTS",

@@ -22,10 +22,10 @@ use Rattle.rs_words.specs.Joining.{IsDrawnOfTable, IsOfTables, fault_of, join_fa
 -- where no item passes, all come
 up_to-all : {X : Type 0} (passes : X → Bool) (xs : List X) → find passes xs ≡ None → up_to passes xs ≡ xs
 up_to-all passes [] e = refl
-up_to-all passes (x ∷ xs) e = go (passes x) e where
-  go : (b : Bool) → cond b (Some x) (find passes xs) ≡ None → cond b (x ∷ []) (x ∷ up_to passes xs) ≡ x ∷ xs
-  go true e = absurd cc
-  go false e = ap (λ ys. x ∷ ys) (up_to-all passes xs e)
+up_to-all passes (x ∷ xs) e = go (passes x) e (λ none. up_to-all passes xs none) where
+  go : (b : Bool) → cond b (Some x) (find passes xs) ≡ None → (find passes xs ≡ None → up_to passes xs ≡ xs) → cond b (x ∷ []) (x ∷ up_to passes xs) ≡ x ∷ xs
+  go true e rest = absurd cc
+  go false e rest = ap (λ ys. x ∷ ys) (rest e)
 
 unrefused : (lefts rights : List FeedRow) (n : ℕ) (pair : Option FeedPair) (ask : Option SideAsk) → Ok pair ≡ answer_by lefts rights n ask → ask ≡ None
 unrefused lefts rights n pair None e = refl

@@ -21,7 +21,7 @@ use Rattle.rs_words.specs.declared.fault.WordFault.{WordFault}
 use Rattle.rs_words.specs.declared.fault.WordFault.TheVariants.{Memory, Order, Range, Read, Table, Write}
 use Rattle.rs_words.specs.Faults.{or_range, or_read, or_table, read_fault, table_fault}
 use Rattle.rs_words.specs.FeedFiles.{feed_columns, feed_file, file_limit, rows_in}
-use Rattle.rs_words.specs.Feeding.{FeedWords, IsFeedRun, LeftRun, call_run, pairs_from, right_run}
+use Rattle.rs_words.specs.Feeding.{FeedWords, IsFeedRun, LeftRun, call_run, run_behind, right_run}
 use Rattle.rs_words.specs.Joining.{join_fault}
 
 abbrev pub IsNoPut : WordFault → Type 0
@@ -86,10 +86,10 @@ of-call lefts rights n (Ok (Some pair)) more own = own
 of-call lefts rights n (Ok None) more own = tt
 of-call lefts rights n (Err why) more own = of-join why
 
-of-pairs : (lefts rights : List FeedRow) (n more : ℕ) → EndsByNoPut (pairs_from lefts rights n more).fault
-unfolding pairs_from
+of-pairs : (lefts rights : List FeedRow) (n more : ℕ) → EndsByNoPut (run_behind lefts rights n more).fault
+unfolding run_behind
 of-pairs lefts rights n zero = tt
-of-pairs lefts rights n (suc more) = of-call lefts rights n (next_answer lefts rights n) (pairs_from lefts rights (suc n) more) (of-pairs lefts rights (suc n) more)
+of-pairs lefts rights n (suc more) = of-call lefts rights n (next_answer lefts rights n) (run_behind lefts rights (suc n) more) (of-pairs lefts rights (suc n) more)
 
 -- of the whole run
 of-right : (lefts : List FeedRow) (count : ℕ) (rights : Result (List FeedRow) WordFault) → GivesNoPut rights → EndsByNoPut (right_run lefts count rights).fault

@@ -24,7 +24,7 @@ use Rattle.rs_words.specs.declared.fault.WordFault.{WordFault}
 use Rattle.rs_words.specs.declared.fault.WordFault.TheVariants.{Memory, Read}
 use Rattle.rs_words.specs.Faults.{feed_faults, put_faults}
 use Rattle.rs_words.specs.FeedFiles.{IsFeedFile, feed_file}
-use Rattle.rs_words.specs.Feeding.{FeedWords, IsFeedRun, LeftRun, call_run, pairs_from, pairs_run, right_run}
+use Rattle.rs_words.specs.Feeding.{FeedWords, IsFeedRun, LeftRun, call_run, run_behind, pairs_run, right_run}
 
 -- a run of puts alone has the same faults where fetches are told too
 module _ (left right : List ℕ) where
@@ -87,7 +87,7 @@ bound-new (Err own) feed e = absurd cc
 -- the run behind the fetch of the left file
 left-run : (finds : Finds) (words : FeedWords) (lefts : Result (List FeedRow) WordFault) → ((there : Option (List ℕ)) × finds words.right there) → (more : Run WordFault) × LeftRun finds words lefts more
 left-run finds words (Err fault) some = (fails fault, refl)
-left-run finds words (Ok lefts) some = (behind (Fetch words.right ∷ []) (right_run lefts words.count (feed_file 2 some.0)), some.0, some.1, refl)
+left-run finds words (Ok lefts) some = (behind (Fetch words.right ∷ []) (right_run lefts words.count (feed_file 2 some.0)), (some.0, some.1, refl))
 
 left-run-err : (finds : Finds) (words : FeedWords) (lefts : Result (List FeedRow) WordFault) (more : Run WordFault) (fault : WordFault) → LeftRun finds words lefts more → lefts ≡ Err fault → more ≡ fails fault
 left-run-err finds words (Ok lefts) more fault is e = absurd cc
@@ -97,6 +97,7 @@ module _ (words : FeedWords) (environment : Environment) (lefts : Outside FilesT
   -- the left file is no feed
   pub Ran-no_left : (fault : WordFault) → FetchesFile {A = TableFeedState} Memory (λ why. why ≡ Read 1 fetch.Failed) words.left (Err fault) (IsFeedFile 1) environment.files lefts
       → Runs (feed_faults words.left words.right) (IsFeedRun (finds_in environment.files.told) words) (Err fault) environment (record environment { files = lefts })
+  unfolding fetches-loosely
   Ran-no_left fault f =
       let more = left-run (finds_in environment.files.told) words (feed_file 1 f.there) (finds-some environment.files.told words.right) in record {
         run = behind (Fetch words.left ∷ []) more.0;
@@ -126,6 +127,7 @@ module _ (words : FeedWords) (environment : Environment) (lefts : Outside FilesT
     -- the right file is no feed
     pub Ran-no_right : (fault : WordFault) → FetchesFile {A = TableFeedState} Memory (λ why. why ≡ Read 2 fetch.Failed) words.right (Err fault) (IsFeedFile 2) lefts rights
         → Runs (feed_faults words.left words.right) (IsFeedRun (finds_in environment.files.told) words) (Err fault) environment (record environment { files = rights })
+    unfolding middle fetches-loosely
     Ran-no_right fault s =
         let read = fetched-ok environment lefts words.left left (IsFeedFile 1) f in record {
           run = behind (Fetch words.left ∷ []) (behind (Fetch words.right ∷ []) (right_run left.rows words.count (feed_file 2 s.there)));
@@ -140,6 +142,7 @@ module _ (words : FeedWords) (environment : Environment) (lefts : Outside FilesT
     pub Ran-joined : (right : TableFeedState) (result : Result (Unit {0}) WordFault) (new : Environment) → FetchesFile {A = TableFeedState} Memory (λ why. why ≡ Read 2 fetch.Failed) words.right (Ok right) (IsFeedFile 2) lefts rights
         → Ran put_faults (pairs_run left.rows right.rows words.count) result (record environment { files = rights }) new
         → Runs (feed_faults words.left words.right) (IsFeedRun (finds_in environment.files.told) words) result environment new
+    unfolding middle
     Ran-joined right result new s ran =
         let read = fetched-ok environment lefts words.left left (IsFeedFile 1) f in
         let other = fetched-ok middle rights words.right right (IsFeedFile 2) s in
@@ -156,7 +159,7 @@ pub some-feed_run : (finds : Finds) → ((name : List ℕ) → (there : Option (
 some-feed_run finds has words =
     let left = has words.left in
     let more = left-run finds words (feed_file 1 left.0) (has words.right) in
-    (behind (Fetch words.left ∷ []) more.0, left.0, left.1, more.0, more.1, refl)
+    (behind (Fetch words.left ∷ []) more.0, (left.0, left.1, more.0, more.1, refl))
 
 LeftRun-one : (finds : Finds) → OneFile finds → (words : FeedWords) (lefts : Result (List FeedRow) WordFault) (a b : Run WordFault) → LeftRun finds words lefts a → LeftRun finds words lefts b → a ≡ b
 LeftRun-one finds one words (Err fault) a b p q = p ∙ sym q
@@ -174,10 +177,10 @@ calls-call lefts rights n (Ok (Some pair)) more e = e
 calls-call lefts rights n (Ok None) more e = refl
 calls-call lefts rights n (Err why) more e = refl
 
-calls-pairs : (lefts rights : List FeedRow) (n more : ℕ) → calls (pairs_from lefts rights n more).events ≡ []
-unfolding pairs_from
+calls-pairs : (lefts rights : List FeedRow) (n more : ℕ) → calls (run_behind lefts rights n more).events ≡ []
+unfolding run_behind
 calls-pairs lefts rights n zero = refl
-calls-pairs lefts rights n (suc more) = calls-call lefts rights n (next_answer lefts rights n) (pairs_from lefts rights (suc n) more) (calls-pairs lefts rights (suc n) more)
+calls-pairs lefts rights n (suc more) = calls-call lefts rights n (next_answer lefts rights n) (run_behind lefts rights (suc n) more) (calls-pairs lefts rights (suc n) more)
 
 calls-right : (lefts : List FeedRow) (count : ℕ) (rights : Result (List FeedRow) WordFault) → calls (right_run lefts count rights).events ≡ []
 calls-right lefts count (Err fault) = refl

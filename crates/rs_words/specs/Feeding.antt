@@ -34,13 +34,13 @@ call_run lefts rights n (Ok None) more = draws_run (asks_of_cuts lefts rights n)
 call_run lefts rights n (Err why) more = fails (join_fault why)
 
 -- what is put behind n pairs, where so many more are wanted. The answers of calls, and the asks that they take, are those of the finished lists of rows
-unfoldable pub pairs_from : List FeedRow → List FeedRow → ℕ → ℕ → Run WordFault
-pairs_from lefts rights n zero = draws_run (asks_of_rows (cut lefts) (cut rights) n)
-pairs_from lefts rights n (suc more) = call_run lefts rights n (next_answer lefts rights n) (pairs_from lefts rights (suc n) more)
+unfoldable pub run_behind : List FeedRow → List FeedRow → ℕ → ℕ → Run WordFault
+run_behind lefts rights n zero = draws_run (asks_of_rows (cut lefts) (cut rights) n)
+run_behind lefts rights n (suc more) = call_run lefts rights n (next_answer lefts rights n) (run_behind lefts rights (suc n) more)
 
 -- the run over both feeds
 abbrev pub pairs_run : List FeedRow → List FeedRow → ℕ → Run WordFault
-pairs_run lefts rights count = pairs_from lefts rights 0 count
+pairs_run lefts rights count = run_behind lefts rights 0 count
 
 -- the same, where the right file may be no feed
 abbrev pub right_run : List FeedRow → ℕ → Result (List FeedRow) WordFault → Run WordFault

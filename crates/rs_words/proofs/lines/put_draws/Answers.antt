@@ -18,4 +18,4 @@ returns-in_err-line g c = λ beside.
 pub returns : goal.returns
 returns g c = λ beside.
     subst (λ (line : List ℕ). Ran put_faults (lines_run (line ∷ [])) c.put_text.result (record beside { out = g.O.Sink.state c.args.out.now }) (record beside { out = g.O.Sink.state c.put_text.new.out }))
-    (c.as_bytes.ensures ∙ c.in_ok-line.ensures) (c.put_text.ensures beside)
+    (c.as_bytes.ensures.value ∙ c.in_ok-line.ensures) (c.put_text.ensures beside)
