@@ -476,6 +476,24 @@ text=$(cat "$root/examples/travel/evening.out" && echo .)
 compare 'the evenings of the example by a plan' 0 "${text%.}" ''
 script "${base}SELECT x.name, y.name FROM h x, h y WHERE x.city = y.city ORDER BY near(x.price, y.price) LIMIT 3;"
 expect 'a table that is joined with itself by a plan' 0 $'1,100,a,a\n2,100,b,b\n3,100,c,c\n' '' -- run s.sql 1
+# ---- threshold scans
+both="${base}CREATE PREDICATE q (v INT) MAX 10 AS v; CREATE RANK INDEX qy ON t (q(y));"
+script "${both}SELECT x, y FROM t ORDER BY p(x) + q(y) LIMIT 1; SELECT x, y FROM t ORDER BY p(x) + q(y) LIMIT 2;"
+expect 'two queries by threshold scans' 0 $'1,17,8,9\ndepth=2 sorted=4 random=3\n1,17,8,9\n2,13,10,3\ndepth=3 sorted=6 random=4\n' '' -- ta s.sql
+script "${both}SELECT x FROM t ORDER BY p(x) + q(y) LIMIT 0; INSERT INTO t VALUES (9, 9); SELECT x FROM t WHERE y > 3 ORDER BY p(x) + q(y) LIMIT 1;"
+expect 'a row that joins between two threshold scans' 0 $'depth=0 sorted=0 random=0\n1,18,9\ndepth=2 sorted=4 random=4\n' '' -- ta s.sql
+script "${both}SELECT x FROM t ORDER BY q(y) LIMIT 1; SELECT x FROM t ORDER BY near(x, y);"
+expect 'a query without an index for a threshold scan' 5 $'1,10,2\ndepth=1 sorted=1 random=0\n' $'script: ta NotEligible statement 9\n' -- ta s.sql
+script "${both}EXPLAIN SELECT z FROM t ORDER BY p(x);"
+expect 'EXPLAIN of a threshold scan' 5 '' $'script: ta NotEligible statement 8\n' -- ta s.sql
+front="${both}SELECT DISTINCT "
+script "${front}z FROM t ORDER BY p(x);"
+expect 'a column that is not there under ta' 5 '' "script: bind NoColumn at ${#front}"$'\n' -- ta s.sql
+expect 'a seed for ta' 2 '' "$usage"$'\n' -- ta s.sql 1
+(cd "$root" && timeout 60 "$program" ta examples/films/threshold.sql >"$work/said/out" 2>"$work/said/err" </dev/null)
+echo $? >"$work/said/status"
+text=$(cat "$root/examples/films/threshold.out" && echo .)
+compare 'the films of the example by threshold scans' 0 "${text%.}" ''
 # The index of the example calls its predicate for each of the 5,000 films. examples/films/README.md counts the other calls. Those under
 # `run` are also what checks/runs.py tells.
 # count NAME WANTED WORD..

@@ -1,7 +1,7 @@
 #!/usr/bin/env python3
-"""Works out what the words `top`, `run`, `plain`, `gen` and `feed` and the lines `guess` do in the cases of the program cases_runs whose files it can read, from the definitions.
+"""Works out what the words `top`, `run`, `plain`, `gen`, `ta` and `feed` and the lines `guess` do in the cases of the program cases_runs whose files it can read, from the definitions.
 
-Queries, their plans and their calls are those of queries.py, and what joins of feeds give and draw is that of feeds.py. The cases that it can't read stay as they are: those in which a
+Queries, their plans and their calls are those of queries.py, threshold scans those of threshold.py, and what joins of feeds give and draw is that of feeds.py. The cases that it can't read stay as they are: those in which a
 name, a type or a file of a script is refused, and words of no form. Of refused scripts it reads those that pass a limit or
 aren't UTF-8, and those whose INSERT is refused. This makes the cases anew, at the top of the repository:
 
@@ -16,6 +16,10 @@ sample, and behind these, and how many of the last come before the first row.
 With the word `gen`, a number and a number of rows it prints what that word does.
 
     python3 checks/runs.py gen 7 600
+
+With the word `ta` and a script it prints what that word does in the current folder.
+
+    python3 checks/runs.py ta examples/films/threshold.sql
 """
 
 import csv
@@ -27,7 +31,8 @@ import sys
 
 import feeds
 from generated import generated
-from queries import Ended, Unread, Words, either, listed, read_query, total, value
+from queries import Block, Ended, Unread, Words, either, listed, read_query, total, value
+from threshold import Scan, by_score, key
 
 STATUSES = ["Done", "Memory", "Usage", "Read", "Write", "Script", "Table", "BadScore", "Probe", "Session"]
 
@@ -449,6 +454,44 @@ class Generated(Run):
         return self.files[name]
 
 
+class Scans(Run):
+    """A run of the word `ta`: its queries are answered by threshold scans."""
+
+    def __init__(self, files, scores, fails):
+        super().__init__(files, scores, fails, None)
+        self.number = 0
+
+    def statement(self, words, place):
+        self.number += 1
+        if words.next() in ("CREATE", "INSERT"):
+            super().statement(words, place)
+        elif words.next() == "SELECT":
+            self.scan(read_query(words, self))
+        else:
+            self.refuse()
+
+    def refuse(self):
+        raise Ended("Script", f"script: ta NotEligible statement {self.number}")
+
+    def scan(self, query):
+        if not self.is_eligible(query):
+            self.refuse()
+        numbers = range(1, len(query.tables[0].rows) + 1)
+        lists = [by_score([query.worth((n,), t, self.answer) for n in numbers]) for t in sorted(query.every)]
+        answers = [key(query.score(row), row[0]) for row in query.answer]
+        scan = Scan(lists, [weight for weight, *_ in query.terms], answers)
+        self.select(query)
+        self.write("depth={} sorted={} random={}\n".format(*scan.accesses(self.asks_of(query))))
+
+    def is_eligible(self, query):
+        """Whether a query is one block without DISTINCT over one table, each of whose terms has a rank index."""
+        if not isinstance(query, Block) or query.distinct or len(query.tables) != 1:
+            return False
+        table = query.names[0][0]
+        keys = [(table, predicate, tuple(a if a[0] == "value" else a[1] for a in args)) for _, predicate, args, _ in query.terms]
+        return all(key in query.indexes for key in keys)
+
+
 def records(text):
     """The records of a file, whose mark in front is left out, without its blank lines. Quotes within a field aren't read here."""
     if re.search('[^,"\r\n]"[^,"\r\n]', text):
@@ -544,12 +587,12 @@ def main():
             scores, fails = {}, {}
 
 
-READ = "NotUtf8|lex NumberTooWide|lex TooManyTokens|parse TooManyStatements|parse TooDeep|catalogue Full"
+READ = "ta NotEligible statement|NotUtf8|lex NumberTooWide|lex TooManyTokens|parse TooManyStatements|parse TooDeep|catalogue Full"
 
 
 def can_be_read(words, old, files):
     """Whether a run of these words can be read, which ended so. Of scripts that are refused, only those can that pass a limit or whose INSERT is."""
-    if not re.fullmatch(r"top \S+ \S+ \d+ \d+|plain \S+|(run|guess) \S+ \d+|gen \d+ \d+|feed \S+ \S+ \d+", words) or "  Usage" in old:
+    if not re.fullmatch(r"top \S+ \S+ \d+ \d+|(plain|ta) \S+|(run|guess) \S+ \d+|gen \d+ \d+|feed \S+ \S+ \d+", words) or "  Usage" in old:
         return False
     if words.startswith(("top ", "feed ")) or not set(old) & {"  Script", "  Table"}:
         return True
@@ -568,6 +611,9 @@ def told(words, files, scores, fails):
     if word == "gen":
         run = Generated(int(rest[0]), int(rest[1]), scores, fails)
         return run.told(run.script, "gen.sql")
+    if word == "ta":
+        run = Scans(files, scores, fails)
+        return run.told(run.script, rest[0])
     if word == "feed":
         run = Run(files, scores, fails, None)
         return run.told(run.feed, rest[0], rest[1], int(rest[2]))
@@ -601,6 +647,10 @@ if __name__ == "__main__":
         generated_run = Generated(int(sys.argv[2]), int(sys.argv[3]), {}, {})
         generated_run.statements(generated_run.files["gen.sql"])
         print(generated_run.put, end="")
+    elif len(sys.argv) == 3 and sys.argv[1] == "ta":
+        scans = Scans(Folder(), {}, {})
+        scans.script(sys.argv[2])
+        print(scans.put, end="")
     elif len(sys.argv) == 3:
         tell(sys.argv[1], int(sys.argv[2]))
     else:

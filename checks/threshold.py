@@ -24,18 +24,15 @@ def key(total, row):
 
 
 class Scan:
-    """A scan of a table by terms, each a weight and a column, and a value that the last column is to have, if any."""
+    """A scan of finished lists of (score, row number), with the weights of their terms, which gives the rows of these keys."""
 
-    def __init__(self, rows, terms, wanted):
-        numbers = range(1, len(rows) + 1)
-        self.size = len(rows)
-        self.lists = [sorted(((rows[n - 1][column], n) for n in numbers), key=lambda e: key(*e)) for _, column in terms]
-        sums = {n: sum(weight * rows[n - 1][column] for weight, column in terms) for n in numbers}
-        self.answers = sorted(key(sums[n], n) for n in numbers if wanted is None or rows[n - 1][-1] == wanted)
-        self.thresholds = [self.threshold(place, terms) for place in range(self.size)]
+    def __init__(self, lists, weights, answers):
+        self.lists, self.weights, self.answers = lists, weights, answers
+        self.size = len(lists[0])
+        self.thresholds = [self.threshold(place) for place in range(self.size)]
 
-    def threshold(self, place, terms):
-        total = sum(weight * entries[place][0] for (weight, _), entries in zip(terms, self.lists))
+    def threshold(self, place):
+        total = sum(weight * entries[place][0] for weight, entries in zip(self.weights, self.lists))
         return key(total, max(entries[place][1] for entries in self.lists))
 
     def depth(self, asks):
@@ -53,10 +50,23 @@ class Scan:
                 first.setdefault(entries[place][1], number)
         return len(first) * (len(self.lists) - 1)
 
-    def told(self, asks):
-        asks = min(asks, len(self.answers) + 1)
+    def accesses(self, asks):
+        """How deep the asks go, and the sorted and the random accesses of all lists."""
         depth = self.depth(asks)
-        return f", depth {depth} sorted {depth * len(self.lists)} random {self.lookups(depth)}"
+        return depth, depth * len(self.lists), self.lookups(depth)
+
+
+def by_score(scores):
+    """The list of these scores of rows, which count from 1."""
+    return sorted(((score, number) for number, score in enumerate(scores, 1)), key=lambda entry: key(*entry))
+
+
+def scan_of(rows, terms, wanted):
+    """A scan of a table by terms, each a weight and a column, and a value that the last column is to have, if any."""
+    lists = [by_score([row[column] for row in rows]) for _, column in terms]
+    sums = [sum(weight * row[column] for weight, column in terms) for row in rows]
+    answers = sorted(key(sums[n - 1], n) for n in range(1, len(rows) + 1) if wanted is None or rows[n - 1][-1] == wanted)
+    return Scan(lists, [weight for weight, _ in terms], answers)
 
 
 def case(rows, width, terms, wanted, count):
@@ -70,13 +80,14 @@ def case(rows, width, terms, wanted, count):
         f"scan {count} CREATE TABLE t ({columns}) FROM '{cells}\\n'; CREATE PREDICATE p (v INT) MAX 9 AS v;"
         f" {indexes} SELECT z FROM t{where} ORDER BY {order};"
     )
-    scan = Scan(rows, terms, wanted)
+    scan = scan_of(rows, terms, wanted)
     for ask in range(1, count + 1):
         row = "none"
         if ask <= len(scan.answers):
             total, number = scan.answers[ask - 1]
             row = f"{number} {-total}"
-        print(f"  {row}{scan.told(ask)}")
+        depth, ordered, random_ones = scan.accesses(min(ask, len(scan.answers) + 1))
+        print(f"  {row}, depth {depth} sorted {ordered} random {random_ones}")
 
 
 def main():

@@ -122,6 +122,7 @@ def examples():
     row = section("docs/FORMATS.md", "The printed row")
     generated = section("docs/FORMATS.md", "The generated input")
     file, printed = blocks(row)[1:3]
+    scanned = read("examples/films/threshold.out").splitlines()
     script, rows = read("examples/first.sql").splitlines(), read("examples/first.out").splitlines()
     return [
         ".SS top", "The three rows of the greatest price, where the file h.csv is", *example(file), ".PP",
@@ -130,6 +131,8 @@ def examples():
         *example(["$ ranksql plain examples/first.sql", *rows]),
         ".SS run", "The same script by a plan, with the seed 1, prints the same rows", *example(["$ ranksql run examples/first.sql 1", *rows]),
         ".SS gen", "Tables of one row, made from the number 0", *example(["$ ranksql gen 0 1", *blocks(generated)[-1]]),
+        ".SS ta", "The best film and the ten best; examples/films/threshold.sql makes the table and its two indexes",
+        *example(["$ ranksql ta examples/films/threshold.sql", *scanned]),
         ".SS feed", "The five best districts for a dinner and a bed, at the top of the repository",
         *example(["$ ranksql feed examples/feeds/restaurants.csv examples/feeds/hotels.csv 5", *read("examples/feeds/best.out").splitlines()]),
     ]
@@ -151,8 +154,9 @@ def page():
         "Ranks the best few combinations of rows of several tables by a weighted sum of scores. A script makes tables from CSV files,",
         "predicates that give scores, and indexes by score, and asks queries. \\fBplain\\fR scores every combination and then prints.",
         "\\fBrun\\fR chooses a plan by a sample, prints each row before it looks for the next one, and calls predicates only as far as the",
-        "order of the rows needs. Both print the same rows in the same order. \\fBfeed\\fR joins two files that are ranked already, and",
-        "draws no row of either that its pairs don't need.",
+        "order of the rows needs. Both print the same rows in the same order.",
+        "\\fBta\\fR answers queries over one table by threshold scans of its rank indexes, and says how many accesses each scan made.",
+        "\\fBfeed\\fR joins two files that are ranked already, and draws no row of either that its pairs don't need.",
         ".SH WORDS",
         *entries(meanings),
         ".SH STATEMENTS",

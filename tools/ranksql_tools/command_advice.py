@@ -8,8 +8,9 @@ FORMS = {
     "run": "ranksql run SCRIPT SEED",
     "plain": "ranksql plain SCRIPT",
     "gen": "ranksql gen NUMBER ROWS",
+    "ta": "ranksql ta SCRIPT",
 }
-WORDS = {"top": 5, "run": 3, "plain": 2, "gen": 3}
+WORDS = {"top": 5, "run": 3, "plain": 2, "gen": 3, "ta": 2}
 
 
 def of_usage(words):
@@ -52,6 +53,7 @@ def of_numbers(word, words):
         "run": [(2, "SEED", 0, MOST_SEED)],
         "plain": [],
         "gen": [(1, "NUMBER", 0, 4_294_967_295), (2, "ROWS", 1, 2_000)],
+        "ta": [],
     }
     for place, name, least, most in ranges[word]:
         text = words[place]
@@ -70,6 +72,14 @@ def of_session(fault):
     if fault.variant == "NameTaken":
         return f"The cursor {fault.name} is still open. Close it first, by CLOSE {fault.name};, or choose another name."
     return "64 cursors are open, and no more can be. Close some first, by CLOSE name;."
+
+
+def of_ineligible():
+    """What to do about a statement that `ta` doesn't take."""
+    return (
+        "`ta` takes CREATE TABLE, CREATE PREDICATE, CREATE RANK INDEX, INSERT, and queries of one SELECT without DISTINCT over one table, where each"
+        " predicate of ORDER BY has a rank index with the same arguments. `run SCRIPT SEED` takes all statements."
+    )
 
 
 def of_write():

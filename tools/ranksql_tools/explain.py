@@ -55,6 +55,8 @@ def explanation(line, words, body):
         return [command_advice.of_probe(fault)]
     if fault.kind == "session":
         return [*session_lines(fault, body), command_advice.of_session(fault)]
+    if fault.kind == "ineligible":
+        return [*ineligible_lines(fault, body), command_advice.of_ineligible()]
     if fault.kind == "script":
         if body is None:
             return []
@@ -77,10 +79,20 @@ def of_data(fault, words, body):
     elif fault.kind == "table":
         token, lines, says = data_advice.of_table(fault, parser)
     else:
-        script = words[1] if words[:1] in (["run"], ["plain"]) and len(words) > 1 else None
+        script = words[1] if words[:1] in (["run"], ["plain"], ["ta"]) and len(words) > 1 else None
         token, says = data_advice.of_read(fault, parser, script)
     shown = with_caret(body, token.start) if body is not None and token is not None else []
     return [*shown, *lines, says]
+
+
+def ineligible_lines(fault, body):
+    """The line at which the statement begins that a word doesn't take."""
+    if body is None:
+        return []
+    body = without_mark(body)
+    tokens = tokens_of(body)
+    parser, _ = parse(tokens)
+    return with_caret(body, tokens[parser.starts[fault.numbers[0] - 1]].start)
 
 
 def session_lines(fault, body):

@@ -4,6 +4,7 @@ import re
 from typing import NamedTuple
 
 SCRIPT = re.compile(r"script: (?:(lex|parse|bind|catalogue) )?(\w+) at (\d+)")
+INELIGIBLE = re.compile(r"script: (ta) NotEligible statement (\d+)")
 SCORE = re.compile(r"score: (.*) rows((?: \d+)+): (-?\d+) is not in 0\.\.(\d+)")
 TABLE = re.compile(
     r"table: (.*): (NoHeader|NoColumn|TooManyRows|TooManyColumns found \d+|HeaderDiffers column \d+"
@@ -32,6 +33,9 @@ def read_fault(line):
     found = SCRIPT.fullmatch(line)
     if found:
         return Fault("script", found[1] or "", found[2], place=int(found[3]))
+    found = INELIGIBLE.fullmatch(line)
+    if found:
+        return Fault("ineligible", name=found[1], numbers=(int(found[2]),))
     found = SCORE.fullmatch(line)
     if found:
         rows = tuple(int(row) for row in found[2].split())

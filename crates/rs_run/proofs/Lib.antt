@@ -1,4 +1,5 @@
 pub mod Worked
+pub mod WorkedScans
 pub mod FeedFacts
 pub mod EachFacts
 pub mod RunFacts

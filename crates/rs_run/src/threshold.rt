@@ -99,10 +99,12 @@ fn scan_statements<T: TableReader, W: Host>(
 {
     let mut catalog = Catalog::new(alloc);
     for (index, statement) in statements.iter().enumerate() {
-        let done = scan_statement(alloc, index + 1, statement, &mut catalog, tables, host);
-        if let Err(fault) = done {
-            release(catalog, Session::new(alloc));
-            return Err(fault);
+        match scan_statement(alloc, index + 1, statement, &mut catalog, tables, host) {
+            Ok(()) => {}
+            Err(fault) => {
+                release(catalog, Session::new(alloc));
+                return Err(fault);
+            }
         }
     }
     release(catalog, Session::new(alloc));
@@ -286,7 +288,8 @@ fn put_scanned_rows<O: Sink>(
     let _ = lists.lists();
     let mut lines = RowLines::new(alloc);
     for given in 0..most_asks(limit) {
-        match scan.next(test, lists)? {
+        let found = scan.next(test, lists)?;
+        match found {
             Some(row) => {
                 put_scanned_row(alloc, &mut lines, given + 1, block, catalog, row, out)?;
             }

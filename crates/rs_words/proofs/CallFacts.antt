@@ -1,5 +1,5 @@
 -- What follows of a call of the join of two feeds of tables.
-use Rattle.std.proofs.Common.{ℕ, suc, ◌≡◌, ◌∙◌, ◌<◌, ◌≤◌, ◌⊎◌, Bool, true, false, cond, List, [], ◌∷◌, find, length, Option, Some, None, Result, Ok, Err, refl, sym, ap, subst, inl, inr, arith}
+use Rattle.std.proofs.Common.{ℕ, ◌≡◌, ◌∙◌, ◌≤◌, ◌⊎◌, Bool, true, false, cond, List, [], ◌∷◌, find, length, Option, Some, None, Result, Ok, Err, refl, sym, ap, subst, inl, inr, arith}
 use Rattle.std.specs.Prelude.{option_map}
 use Rattle.rs_feed.specs.declared.feed_row.FeedRow.{FeedRow}
 use Rattle.rs_feed_join.specs.declared.fault.JoinFault.{JoinFault}
@@ -12,7 +12,6 @@ use Rattle.rs_feed_join.specs.Joins.{FeedJoinState, IsRefusal, side_in}
 use Rattle.rs_feed_join.specs.Sides.{FeedSide, IsDrawnOf}
 use Rattle.rs_order.specs.Last.{last_of}
 use Rattle.rs_order.specs.Schedule.{JoinSide, Left, Right, SideAsk, asked}
-use Rattle.rs_events.specs.Environment.{Environment}
 use Rattle.rs_events.specs.Run.{Run, fails}
 use Rattle.rs_words.specs.declared.fault.WordFault.{WordFault}
 use Rattle.rs_words.specs.declared.fault.WordFault.TheVariants.{Memory}

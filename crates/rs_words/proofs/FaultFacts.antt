@@ -1,5 +1,5 @@
 -- The faults that the definition of the word `feed` ends with: never that a put failed.
-use Rattle.std.proofs.Common.{ℕ, zero, suc, ◌≡◌, List, Option, Some, None, Result, Ok, Err, sym, subst}
+use Rattle.std.proofs.Common.{ℕ, zero, suc, List, Option, Some, None, Result, Ok, Err, sym, subst}
 use Rattle.rs_value.specs.Results.{◌>>=◌}
 use Rattle.rs_outside.specs.declared.files.FetchFault.{FetchFault}
 use Rattle.rs_outside.specs.declared.files.FetchFault.TheVariants as fetch
@@ -19,7 +19,7 @@ use Rattle.rs_events.specs.Fetching.{fetched_bytes}
 use Rattle.rs_events.specs.Run.{Run}
 use Rattle.rs_words.specs.declared.fault.WordFault.{WordFault}
 use Rattle.rs_words.specs.declared.fault.WordFault.TheVariants.{Memory, Order, Range, Read, Table, Write}
-use Rattle.rs_words.specs.Faults.{or_range, or_read, or_table, read_fault, table_fault}
+use Rattle.rs_words.specs.Faults.{or_range, or_read, or_table}
 use Rattle.rs_words.specs.FeedFiles.{feed_columns, feed_file, file_limit, rows_in}
 use Rattle.rs_words.specs.Feeding.{FeedWords, IsFeedRun, LeftRun, call_run, run_behind, right_run}
 use Rattle.rs_words.specs.Joining.{join_fault}

@@ -1,5 +1,5 @@
 -- The pairs that were put, one after another, and what is left of the run behind them.
-use Rattle.std.proofs.Common.{ℕ, zero, suc, ◌≡◌, ◌∙◌, ◌⊎◌, inl, inr, ◌++◌, ◌+◌, ◌-◌, ◌<◌, ◌≤◌, Bool, true, false, List, [], ◌∷◌, length, Option, Some, None, Result, Ok, Err, refl, sym, ap, subst, append_assoc, arith}
+use Rattle.std.proofs.Common.{ℕ, zero, suc, ◌≡◌, ◌∙◌, ◌⊎◌, inl, inr, ◌++◌, ◌+◌, ◌-◌, ◌<◌, ◌≤◌, Bool, true, false, List, [], ◌∷◌, length, Some, None, Result, Ok, Err, refl, sym, ap, subst, append_assoc, arith}
 use Rattle.rs_table.specs.Relation.{most_rows}
 use Rattle.rs_feed.specs.declared.feed_row.FeedRow.{FeedRow}
 use Rattle.rs_table_feed.specs.TableFeeds.{TableFeedState, new_feed}

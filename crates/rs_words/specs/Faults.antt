@@ -1,5 +1,5 @@
 -- With which faults words end.
-use Rattle.std.specs.Prelude.{ℕ, ◌≡◌, ◌⊎◌, List, Option, Some, None, Result, Ok, Err}
+use Rattle.std.specs.Prelude.{ℕ, ◌≡◌, ◌⊎◌, List, Result, Ok, Err}
 use Rattle.rs_outside.specs.declared.files.FetchFault.{FetchFault}
 use Rattle.rs_outside.specs.declared.files.FetchFault.TheVariants as fetch
 use Rattle.rs_table.specs.declared.fault.TableFault.{TableFault}

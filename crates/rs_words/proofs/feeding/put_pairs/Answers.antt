@@ -1,4 +1,4 @@
-use Rattle.std.proofs.Common.{◌≡◌, ◌∙◌, ◌<◌, ◌+◌, suc, Bool, true, false, Ok, Err, ap, refl, subst, arith}
+use Rattle.std.proofs.Common.{◌≡◌, ◌∙◌, ◌+◌, suc, true, false, Ok, Err, ap, refl, subst, arith}
 use Rattle.rs_value.proofs.ResultFacts.{given-err}
 use Rattle.rs_feed_join.specs.Answers.{asks_of_cuts}
 use Rattle.rs_feed_join.specs.Cuts.{cut}

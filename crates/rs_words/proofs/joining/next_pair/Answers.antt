@@ -1,4 +1,4 @@
-use Rattle.std.proofs.Common.{◌≡◌, ◌⊎◌, ◌∙◌, Some, Err, refl, sym, ap, subst}
+use Rattle.std.proofs.Common.{◌≡◌, ◌⊎◌, Some, Err, refl, sym, ap, subst}
 use Rattle.rs_feed_join.specs.Answers.{next_answer}
 use Rattle.rs_words.specs.declared.fault.WordFault.{WordFault}
 use Rattle.rs_words.specs.declared.fault.WordFault.TheVariants.{Memory}

@@ -1,0 +1,73 @@
+-- A new scan over the indexes of an eligible block stands where no ask has left it.
+use Rattle.std.proofs.Common.{◌≡◌, ◌∙◌, ◌≤◌, ◌-◌, ◌++◌, List, ℕ, zero, suc, [], ◌∷◌, refl, sym, ap, subst}
+use Rattle.std.specs.Prelude.{slice_index}
+use Rattle.rs_order.proofs.EachFacts.{each-weaker}
+use Rattle.rs_rank.specs.declared.answer.Answer.{Answer}
+use Rattle.rs_rank.specs.declared.weights.Weights.{Weights}
+use Rattle.rs_query.specs.Answers.{answer_of, weights_of}
+use Rattle.rs_query.specs.WellFormed.{IsTerm}
+use Rattle.rs_query.specs.declared.term.Term.{Term}
+use Rattle.rs_ta.specs.BlockTests.{BlockTestState, holds_on}
+use Rattle.rs_ta.specs.Eligible.{block_input}
+use Rattle.rs_ta.specs.IndexLists.{IndexListsState, index_lists_state, new_index_lists}
+use Rattle.rs_ta.specs.Scans.{Scan, new_scan}
+use Rattle.rs_ta.proofs.EligibleFacts.{held-indexes}
+use Rattle.rs_events.specs.Run.{lines_run}
+use Rattle.rs_events.specs.Running.{Ran}
+use Rattle.rs_statement.specs.Lines.{rank_lines}
+use Rattle.rs_run.specs.Faults.{run_faults}
+use Rattle.rs_run.specs.Parts.Scanning.{IsScanning, IsUnasked, scan_input, scanned_rows}
+use Rattle.rs_run.specs.Threshold.{access_line, scan_asks}
+use Rattle.rs_run.proofs.threshold.scan_block.Goals as goal
+
+-- no list had an access at first
+none-at : (n : ℕ) → slice_index (0 ∷ 0 ∷ 0 ∷ 0 ∷ 0 ∷ 0 ∷ 0 ∷ 0 ∷ []) n ≡ 0
+none-at zero = refl
+none-at (suc zero) = refl
+none-at (suc (suc zero)) = refl
+none-at (suc (suc (suc zero))) = refl
+none-at (suc (suc (suc (suc zero)))) = refl
+none-at (suc (suc (suc (suc (suc zero))))) = refl
+none-at (suc (suc (suc (suc (suc (suc zero)))))) = refl
+none-at (suc (suc (suc (suc (suc (suc (suc zero))))))) = refl
+none-at (suc (suc (suc (suc (suc (suc (suc (suc n)))))))) = refl
+
+pub new-test-requires : goal.new-test-requires
+new-test-requires g c = record {
+  block = c.requires.formed;
+  one_entry = c.eligible_blocks_can_be_scanned.ensures.entry c.args.catalog.now c.args.block.now c.args.indexes.items c.requires.eligible;
+}
+
+pub new-lists-requires : goal.new-lists-requires
+new-lists-requires g c =
+    c.eligible_blocks_can_be_scanned.ensures.indexes c.args.catalog.now c.args.block.now c.args.indexes.items c.requires.formed c.requires.eligible
+
+pub weights-requires-clause-limits : goal.weights-requires-clause-limits
+weights-requires-clause-limits g c =
+    each-weaker (IsTerm c.args.catalog.now c.args.block.now) (λ (t : Term). t.weight ≤ 1000000) (λ t is. is.most_weight) c.args.block.now.terms c.requires.formed.terms
+
+pub put_scan-requires : goal.put_scan-requires
+put_scan-requires g c =
+    let catalogue = c.args.catalog.now in
+    let block = c.args.block.now in
+    let indexes = c.args.indexes.items in
+    let answer = (g.W.Host.state c.args.host.now).scorer.answer in
+    let test : BlockTestState = record { catalogue = catalogue; block = block } in
+    let lists = new_index_lists catalogue indexes in
+    let state = index_lists_state lists in
+    let start : IsScanning test (new_scan (weights_of block) 1 1) lists = record {
+      entry_is = refl;
+      block_is = refl;
+      stands = c.new_scan_stands.ensures (weights_of block) 1 1 state (holds_on catalogue block) (λ list is. none-at (list - 1)) (λ list is. none-at (list - 1));
+      have = c.eligible_blocks_can_be_scanned.ensures.weights catalogue block indexes c.requires.formed c.requires.eligible;
+      same_rows = c.threshold_scans_give_the_answer.ensures.rows answer catalogue block indexes c.requires.formed c.requires.eligible (held-indexes answer catalogue indexes c.requires.held);
+    } in
+    let scan : c.new-scan.result ≡ new_scan (weights_of block) 1 1 = c.new-scan.ensures ∙ ap (λ (weights : Weights). new_scan weights 1 1) c.weights.ensures.value in record {
+      formed = c.requires.formed;
+      one_entry = c.eligible_blocks_can_be_scanned.ensures.entry catalogue block indexes c.requires.eligible;
+      test = c.new-test.ensures;
+      scanning = subst (λ (scan : Scan). IsScanning c.new-test.result scan c.new-lists.result) (sym scan)
+          (subst (λ (own : IndexListsState). IsScanning c.new-test.result (new_scan (weights_of block) 1 1) own) (sym c.new-lists.ensures)
+          (subst (λ (own : BlockTestState). IsScanning own (new_scan (weights_of block) 1 1) lists) (sym c.new-test.ensures) start));
+      unasked = subst IsUnasked (sym scan) (record { given = refl; open_is = refl });
+    }
