@@ -35,7 +35,10 @@ pub enum RunFault {
     /// The words of the command line are of no form.
     Usage,
     /// The statement of this number, counted from 1, is none that the word takes.
-    NotEligible { word: ScriptWord, statement: usize },
+    NotEligible {
+        word: ScriptWord,
+        statement: usize,
+    },
     /// In the feed of this name a row's score, `got`, is greater than that of the row before it. Rows are counted from 1.
     Order {
         name: Text,
@@ -116,13 +119,7 @@ impl RunFault {
 }
 
 /// The line of a feed with a row out of order.
-fn order_line(
-    alloc: Global,
-    name: &Text,
-    row: u32,
-    before: u32,
-    got: u32,
-) -> Result<String, Memory>
+fn order_line(alloc: Global, name: &Text, row: u32, before: u32, got: u32) -> Result<String, Memory>
     ensures { IfOk result (λ line. string_bytes line ≡ run_fault_line (RunFault.Order name.now row before got)) }
 {
     let name = name.as_str();

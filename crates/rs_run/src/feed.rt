@@ -50,12 +50,7 @@ fn word_fault(alloc: Global, left: &Text, right: &Text, why: WordFault) -> RunFa
 }
 
 /// The same, where there is memory.
-fn named_fault(
-    alloc: Global,
-    left: &Text,
-    right: &Text,
-    why: WordFault,
-) -> Result<RunFault, Memory>
+fn named_fault(alloc: Global, left: &Text, right: &Text, why: WordFault) -> Result<RunFault, Memory>
     ensures { IfOk result (λ fault. fault ≡ told.word_fault left.now right.now why) }
 {
     match why {

@@ -29,6 +29,6 @@ returns g c = λ beside i asks is.
     let had = accessed i asks scan lists is in
     let ranked = subst AreRanked (sym is.lists_are) c.lists.ensures.ranked in
     let text = line-is i asks scan lists is c.counts.result.0 c.counts.result.1 c.lists.ensures.ranked c.counts.ensures.sorted c.counts.ensures.random
-        (sums.sorted i asks state had) (sums.random i asks state had) (sums.few_sorted i asks ranked) (sums.few_random i asks ranked) in
+    (sums.sorted i asks state had) (sums.random i asks state had) (sums.few_sorted i asks ranked) (sums.few_random i asks ranked) in
     subst (λ line. Ran run_faults (lines_run (line ∷ [])) c.put_text.result (record beside { out = g.O.Sink.state c.args.out.now }) (record beside { out = g.O.Sink.state c.put_text.new.out }))
     (c.as_bytes.ensures.value ∙ c.in_ok-line.ensures ∙ ap (λ depth. accesses_text depth c.counts.result.0 c.counts.result.1) c.depth.ensures ∙ text) (c.put_text.ensures beside)
