@@ -157,6 +157,19 @@ class Query(Executed):
     number: int = 1  # of the block
     outputs: list = None  # columns; None is all of them
     distinct: bool = False
+    tops: list = None  # the most that each term can give where it isn't evaluated, as `bind` finds it
+
+    def bind(self, indexes):
+        """Takes the tops of the terms from the indexes that there are."""
+        self.tops = [self.top(term, indexes) for term in self.terms]
+
+    def top(self, term, indexes):
+        """The first score of the index of a term, or 0 where it is empty; MAX where it has no index or several entries."""
+        for predicate, table, letter in indexes:
+            for entry, own in enumerate(self.tables, 1):
+                if (term.predicate, term.columns, own) == (predicate, [(entry, letter)], table):
+                    return max((predicate.answer(row[table.columns.index(letter)]) for row in table.rows), default=0)
+        return term.predicate.most
 
     def values(self, columns, row):
         """The values of some columns in a row."""
@@ -173,8 +186,8 @@ class Query(Executed):
 
     def key(self, terms, row):
         """The key of a row where terms of these numbers are evaluated. A lesser key comes before a greater one."""
-        pairs = enumerate(self.terms, 1)
-        bounds = [term.weight * (self.worth(term, row) if number in terms else term.predicate.most) for number, term in pairs]
+        pairs = enumerate(zip(self.terms, self.tops), 1)
+        bounds = [term.weight * (self.worth(term, row) if number in terms else top) for number, (term, top) in pairs]
         return -sum(bounds), row
 
     def combinations(self, entries):
@@ -217,7 +230,7 @@ class Query(Executed):
 
     def drawn(self, scan, asks):
         """How far a scan drew: to the place of the last row that it gave, in the table or the index, or else to the end."""
-        source = Query(self.tables, [], self.terms).rows(scan)
+        source = Query(self.tables, [], self.terms, tops=self.tops).rows(scan)
         last = self.rows(scan)[asks - 1 : asks]
         return 0 if asks == 0 else source.index(last[0]) + 1 if last else len(source)
 
@@ -262,6 +275,12 @@ class SetQuery(Executed):
 
     def __post_init__(self):
         self.terms = self.left.terms
+
+    def bind(self, indexes):
+        """The tops of both blocks are the greater ones."""
+        for block in (self.left, self.right):
+            block.bind(indexes)
+        self.left.tops = self.right.tops = list(map(max, self.left.tops, self.right.tops))
 
     def of(self, number):
         """The block of this number."""
@@ -388,10 +407,12 @@ class Script:
         return [plan for plan in self.parts(query, shape) if plan.drops == query.distinct]
 
     def plans(self, query, shape):
+        query.bind(self.indexes)
         return [plan for plan in self.complete(query, shape) if len(plan.terms) == len(query.terms)]
 
     def set_plans(self, query, *shapes):
         """All plans of a set query whose sides have these shapes."""
+        query.bind(self.indexes)
         sides = (self.complete(block, shape) for block, shape in zip((query.left, query.right), shapes))
         pairs = [pair for pair in itertools.product(*sides) if pair[0].terms == pair[1].terms]
         plans = itertools.chain.from_iterable(above(query, combined(*pair)) for pair in pairs)
@@ -416,12 +437,12 @@ def nearness(one, other):
     return 9 - abs(one - other)
 
 
-def tell_one_table(chance, size):
-    """All plans of queries of one table."""
+def tell_one_table(chance, size, beyond=0):
+    """All plans of queries of one table, whose predicates have a MAX so much greater than their scores."""
     # A row that is good in one column is so in the others: not all rows have to be drawn.
     rows = [[mean + chance.randint(-2, 2) for _ in "xyz"] for mean in chance.choices(range(2, 10), k=size)]
     table = Table("t", "xyz", rows)
-    predicates = [Predicate(name, max(column) + chance.randint(0, 1), "v", same) for name, column in zip("pqr", zip(*rows))]
+    predicates = [Predicate(name, max(column) + chance.randint(0, 1) + beyond, "v", same) for name, column in zip("pqr", zip(*rows))]
     indexes = [(predicates[term - 1], table, "xyz"[term - 1]) for term in chance.sample([1, 2, 3], 3)]
     script = Script([table], predicates, indexes)
     print("front\nfront", script.text)
@@ -466,10 +487,10 @@ def operators_on_top(plan):
     return 1 + operators_on_top(plan.below[0]) if plan.term and plan.below else 0
 
 
-def tell_joins(chance, tables, conditions, with_nearness=False, kinds=None):
+def tell_joins(chance, tables, conditions, with_nearness=False, kinds=None, most=9):
     """A query with joins of each shape and of all kinds, or of so many. Where its terms are evaluated is taken by chance."""
     letters = [table.columns[1] for table in tables]
-    predicates = {letter: Predicate(name, 9, "v", same) for name, letter in zip("pqr", "xyz") if letter in letters}
+    predicates = {letter: Predicate(name, most, "v", same) for name, letter in zip("pqr", "xyz") if letter in letters}
     columns = list(enumerate(letters, 1))
     terms = [Term(chance.randint(1, 3), predicates[letter], [(entry, letter)]) for entry, letter in columns]
     if with_nearness:
@@ -493,17 +514,17 @@ def random_rows(chance, numbers, count):
     return [[chance.choice(numbers), chance.randint(0, 9)] for _ in range(count)]
 
 
-def tell_three_tables(chance, what, tables, pairs, kinds=None):
+def tell_three_tables(chance, what, tables, pairs, kinds=None, most=9):
     """Joins of three tables of these rows, in an order taken by chance, with equalities of these pairs of entries."""
     print(f"# Joins of three tables: {what}")
     tables = [Table(name, "g" + letter, rows) for name, letter, rows in zip("abc", "xyz", tables)]
-    tell_joins(chance, chance.sample(tables, 3), [equality(*pair) for pair in pairs], with_nearness=True, kinds=kinds)
+    tell_joins(chance, chance.sample(tables, 3), [equality(*pair) for pair in pairs], with_nearness=True, kinds=kinds, most=most)
 
 
-def tell_two_tables(chance, what, lefts, rights, conditions):
+def tell_two_tables(chance, what, lefts, rights, conditions, most=9):
     """Joins of the tables a and b of these rows."""
     print(f"# Joins of two tables: {what}")
-    tell_joins(chance, [Table("a", "gx", lefts), Table("b", "gy", rights)], conditions)
+    tell_joins(chance, [Table("a", "gx", lefts), Table("b", "gy", rights)], conditions, most=most)
 
 
 def tell_kinds_of_tables(chance):
@@ -558,11 +579,11 @@ def tell_distinct(chance):
                 print(query.case(plan, len(query.base()) + 1))
 
 
-def tell_set_operators(chance, what, lefts, rights, conditions=(), wanted=()):
+def tell_set_operators(chance, what, lefts, rights, conditions=(), wanted=(), most=4):
     """Each operator over two tables of these rows, with conditions on them; and where it is wanted DISTINCT in a block."""
     print(f"# Set operators over two tables: {what}")
     tables = [Table("a", "gx", lefts), Table("b", "hy", rights)]
-    predicates = [Predicate(name, 4, "v", same) for name in "pq"]
+    predicates = [Predicate(name, most, "v", same) for name in "pq"]
     places = [(number, column) for number in (0, 1) for column in (0, 1)]
     indexes = [(predicates[column], tables[number], tables[number].columns[column]) for number, column in chance.sample(places, 2)]
     script = Script(tables, predicates, indexes)
@@ -623,6 +644,22 @@ def tell_joined_sides(chance):
             print(query.case(plan, chance.choice([2, len(query.base()) + 1])))
 
 
+def tell_low_tops(chance):
+    """Queries by indexes whose first scores lie far below MAX."""
+    print("# Rank indexes whose first scores lie far below MAX: all plans of queries of one table.")
+    tell_one_table(chance, 8, beyond=20)
+    some = functools.partial(random_rows, chance)
+    tell_two_tables(chance, "first scores far below MAX.", some([1, 2, 3], 6), some([1, 2, 3], 6), [equality(1, 2)], most=40)
+    tell_two_tables(chance, "first scores far below MAX, and that of an empty index.", some([1, 2], 4), [], [equality(1, 2)], most=40)
+    tell_three_tables(chance, "first scores far below MAX.", [some([1, 2], 4), some([1, 2], 3), some([1, 2], 4)], [(1, 2), (2, 3)], kinds=1, most=40)
+    few = lambda count: [[chance.randint(1, 3), chance.randint(1, 3)] for _ in range(count)]
+    tell = functools.partial(tell_set_operators, chance, most=20)
+    tell("first scores far below MAX.", few(6), few(5))
+    tell("first scores far below MAX, those of the second table greater.", few(5), [[x + 4, y + 2] for x, y in few(5)])
+    tell("first scores far below MAX, and the first table has no row.", [], few(4))
+    tell("first scores far below MAX, with DISTINCT in both blocks.", few(6), few(6), wanted=(1, 2))
+
+
 def main():
     print("# Random tables, and all plans of queries of one, two and three terms: see checks/executor.py.")
     chance = random.Random(1)
@@ -640,6 +677,7 @@ def main():
     tell_distinct(chance)
     tell_kinds_of_sides(chance)
     tell_joined_sides(chance)
+    tell_low_tops(chance)
 
 
 if __name__ == "__main__":

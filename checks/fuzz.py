@@ -2,7 +2,8 @@
 which calls this: checks/fuzz.sh N SEED tries N cases, which are the same at each run with that seed.
 
 A case has small tables, and a script of the grammar, of which every second one has a few words exchanged, left out or doubled.
-Rows join the tables, and indexes are made, between the FETCHes of its cursors too. It is run by plans and plainly. Where the program runs the whole script, or ends it by a score, a cursor or a missing file,
+Many terms have an index, most of these with a first score
+below MAX. Rows join the tables, and indexes are made, between the FETCHes of its cursors too. It is run by plans and plainly. Where the program runs the whole script, or ends it by a score, a cursor or a missing file,
 status, rows and line have to be those of runs.py. Where it refuses a statement or a table, the rows of the statements in front
 have to be, and of an INSERT the line too. A run may never crash, and its line has to be one of its status.
 """
@@ -32,6 +33,7 @@ PREDICATES = {
     "half": (1, "CREATE PREDICATE half (v INT) MAX 10 AS v / 2;"),
     "near": (2, "CREATE PREDICATE near (a INT, b INT) MAX 100 AS 100 - ABS(a - b);"),
     "best": (2, "CREATE PREDICATE best (a INT, b INT) MAX 20 COST 3 AS MAX(a, b);"),
+    "far": (1, "CREATE PREDICATE far (v INT) MAX 60 COST 20 AS v;"),
 }
 LINES = {
     1: "memory",
@@ -54,8 +56,8 @@ class Case:
         self.most = self.draw.choice([3, 9, 10, 12])
         self.files = {f"{name}.csv": self.table(columns) for name, columns in TABLES.items()}
         tables = [f"CREATE TABLE {name} ({', '.join(columns)}) FROM '{name}.csv';" for name, columns in TABLES.items()]
-        self.indexes, self.favourite = 0, self.draw.choice(list(TABLES))
-        front = tables + [text for _, text in PREDICATES.values()] + [self.index() for _ in range(self.draw.randrange(4))]
+        self.indexed, self.favourite = [], self.draw.choice(list(TABLES))
+        front = tables + [text for _, text in PREDICATES.values()] + [self.index() for _ in range(self.draw.randrange(6))]
         self.open = []
         script = front + [self.statement() for _ in range(self.draw.randrange(1, 12))]
         if number % 2:
@@ -81,6 +83,11 @@ class Case:
         of_kind = [f"{alias}.{column.split()[0]}" for name, alias in entries for column in TABLES[name] if column.endswith(kind)]
         return self.draw.choice(of_kind) if of_kind else self.column(entries)
 
+    def term(self, entries):
+        """A call of a query: often one that an index of its tables is of."""
+        found = [re.sub(rf"\b{table}\.", f"{alias}.", call) for table, call in self.indexed for name, alias in entries if name == table]
+        return self.draw.choice(found) if found and self.draw.random() < 0.6 else self.call(entries)
+
     def call(self, entries):
         name, (count, _) = self.draw.choice(list(PREDICATES.items()))
         args = [self.column(entries) if self.draw.random() < 0.85 else str(self.draw.randrange(9)) for _ in range(count)]
@@ -92,8 +99,8 @@ class Case:
 
     def index(self):
         table = self.grown()
-        self.indexes += 1
-        return f"CREATE RANK INDEX i{self.indexes} ON {table} ({self.call([(table, table)])});"
+        self.indexed.append((table, self.call([(table, table)])))
+        return f"CREATE RANK INDEX i{len(self.indexed)} ON {table} ({self.indexed[-1][1]});"
 
     def insert(self):
         table = self.grown()
@@ -125,19 +132,31 @@ class Case:
     def query(self):
         limit = self.draw.choice(["", "", " LIMIT 0", " LIMIT 1", " LIMIT 3", " LIMIT 50"])
         if self.draw.random() < 0.2:
-            sides = [self.entries(2) for _ in range(2)]
-            columns = [self.column(entries) for entries in sides]
+            sides, columns, predicate = self.sides()
             word = self.draw.choice(["UNION", "UNION ALL", "INTERSECT", "EXCEPT"])
             blocks = [self.block(entries, column) for entries, column in zip(sides, columns)]
-            order = f"{self.draw.choice(['p', 'q', 'half'])}({columns[0].split('.')[1]})"
+            order = f"{predicate}({columns[0].split('.')[1]})"
+            if self.draw.random() < 0.5:
+                order += f" + {self.draw.choice(['2 * ', ''])}{self.draw.choice(['p', 'q', 'half', 'far'])}({columns[0].split('.')[1]})"
             return f"{blocks[0]} {word} {blocks[1]} ORDER BY {order}{limit}"
         entries = self.entries(3)
-        order = " + ".join(self.draw.choice(["", "", "2 * ", "1000000 * "]) + self.call(entries) for _ in range(self.draw.randrange(1, 4)))
+        order = " + ".join(self.draw.choice(["", "", "2 * ", "1000000 * "]) + self.term(entries) for _ in range(self.draw.randrange(1, 4)))
         items = [self.column(entries, self.draw.choice(["INT", "TEXT"])) for _ in range(self.draw.randrange(1, 3))]
         if self.draw.random() < 0.25:
             items = sorted(set(items + re.findall(r"\b[xyz]\.\w+", order)))
             return f"{self.block(entries, 'DISTINCT ' + ', '.join(items))} ORDER BY {order}{limit}"
         return f"{self.block(entries, ', '.join(items))} ORDER BY {order}{limit}"
+
+    def sides(self):
+        """The entries of both blocks of a query, the output column of each, and a predicate of it: often with an index in each block."""
+        calls = [(table, *call[:-1].split("(")) for table, call in self.indexed if re.fullmatch(r"\w+\(\w+\.\w+\)", call)]
+        if not calls or self.draw.random() < 0.4:
+            sides = [self.entries(2) for _ in range(2)]
+            return sides, [self.column(entries) for entries in sides], self.draw.choice(["p", "q", "half", "far"])
+        _, predicate, _ = self.draw.choice(calls)
+        chosen = [self.draw.choice([(table, column) for table, name, column in calls if name == predicate]) for _ in range(2)]
+        sides = [[(table, "v")] + self.entries(1) * self.draw.randrange(2) for table, _ in chosen]
+        return sides, [f"v.{column.split('.')[1]}" for _, column in chosen], predicate
 
     def statement(self):
         """A statement behind the front. Most cursors are open where rows are fetched, and most names free where one is opened."""

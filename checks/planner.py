@@ -120,12 +120,25 @@ class Block:
         self.outputs, self.distinct = outputs, distinct
         self.entries = frozenset(range(1, len(names) + 1))
         self.numbers = frozenset(range(1, len(terms) + 1))
+        self.tops = [self.top(term) for term in terms]
         scores = sorted((self.bound(rows, self.numbers) for rows in self.combinations(self.entries)), reverse=True)
         wanted = max(1, 10 if limit is None else limit)
         self.cutoff = scores[wanted - 1] if wanted <= len(scores) else 0
 
     def table(self, entry):
         return self.tables[self.names[entry - 1]]
+
+    def is_indexed(self, entry, term):
+        """Whether a term speaks of an entry alone, whose table has an index for it."""
+        columns = tuple(column for _, column in term.columns)
+        return term.entries() == {entry} and (self.names[entry - 1], term.predicate, columns) in self.indexes
+
+    def top(self, term):
+        """The first score of the index of a term, or 0 where it is empty; MAX where it has no index or several entries."""
+        for entry in self.entries:
+            if self.is_indexed(entry, term):
+                return max((term.worth({entry: row}) for row in self.table(entry)), default=0)
+        return MOST
 
     def combinations(self, entries, satisfied=True):
         """The rows of some entries that satisfy all that speaks of these entries alone."""
@@ -137,8 +150,8 @@ class Block:
 
     def bound(self, rows, evaluated):
         """The most that the terms can give, where these are evaluated."""
-        pairs = enumerate(self.terms, 1)
-        return sum(term.weight * (term.worth(rows) if number in evaluated else MOST) for number, term in pairs)
+        pairs = enumerate(zip(self.terms, self.tops), 1)
+        return sum(term.weight * (term.worth(rows) if number in evaluated else top) for number, (term, top) in pairs)
 
     @functools.cache
     def estimate(self, entries, evaluated, satisfied=True):
@@ -174,9 +187,7 @@ class Block:
             yield Node("SeqScan", entries, evaluated)
             return
         (number,), (entry,) = evaluated, entries
-        term = self.terms[number - 1]
-        columns = tuple(column for _, column in term.columns)
-        if term.entries() == entries and (self.names[entry - 1], term.predicate, columns) in self.indexes:
+        if self.is_indexed(entry, self.terms[number - 1]):
             yield Node("RankScan", entries, evaluated, number)
 
     def operators(self, entries, evaluated):
@@ -265,6 +276,8 @@ class Pair:
     def __init__(self, operator_words, left, right):
         self.words, self.left, self.right = operator_words, left, right
         self.entries, self.numbers, self.terms = left.entries, left.numbers, left.terms
+        # The tops of both blocks are the greater ones.
+        left.tops = right.tops = list(map(max, left.tops, right.tops))
 
     def rows_of(self, node):
         return sum(block.estimate(block.entries, node.terms) for block in (self.left, self.right))
@@ -376,9 +389,9 @@ def random_conjuncts(chance, count):
         yield Conjunct((1, "x"), "<", (2, "y"))
 
 
-def random_table(chance, sizes=(0, 1, 3, 6, 8, 9, 10, 10, 12, 12)):
+def random_table(chance, sizes=(0, 1, 3, 6, 8, 9, 10, 10, 12, 12), most=MOST):
     size = chance.choice(sizes)
-    return [{"x": chance.randint(0, MOST), "y": chance.randint(0, MOST), "k": chance.randint(0, 2)} for _ in range(size)]
+    return [{"x": chance.randint(0, most), "y": chance.randint(0, most), "k": chance.randint(0, 2)} for _ in range(size)]
 
 
 def random_indexes(chance):
@@ -428,11 +441,10 @@ def random_pair(chance, tables, indexes):
     return Pair(chance.choice(list(OPERATORS)), *sides)
 
 
-def main():
-    print("# Random tables, and the least plans of queries of one to three entries and terms: see checks/planner.py.")
-    chance = random.Random(4)
-    for _ in range(13):
-        tables, indexes = {name: random_table(chance) for name in "tu"}, random_indexes(chance)
+def tell_queries(chance, count, most=MOST):
+    """Queries of each kind, over so many pairs of tables whose numbers are no greater than this."""
+    for _ in range(count):
+        tables, indexes = {name: random_table(chance, most=most) for name in "tu"}, random_indexes(chance)
         print("front\nfront", front(tables, indexes))
         for number, make in enumerate([random_block] * 4 + [random_distinct, random_pair]):
             query = make(chance, tables, indexes)
@@ -440,12 +452,20 @@ def main():
             print(case(seed, query))
             if number in (0, 4, 5):
                 print(costs_case(seed, query, list(all_costs(query))))
+
+
+def main():
+    print("# Random tables, and the least plans of queries of one to three entries and terms: see checks/planner.py.")
+    chance = random.Random(4)
+    tell_queries(chance, 13)
     print("# Queries of six entries and eight terms, over tables of two or three rows.")
     for _ in range(3):
         tables, indexes = {name: random_table(chance, [2, 2, 3]) for name in "tu"}, random_indexes(chance)
         print("front\nfront", front(tables, indexes))
         query = wide_block(chance, tables, indexes)
         print(costs_case(chance.randint(0, 9), query, some_costs(chance, query)))
+    print("# Rank indexes whose first scores lie far below MAX.")
+    tell_queries(chance, 6, most=3)
 
 
 main()

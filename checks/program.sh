@@ -310,7 +310,7 @@ while IFS= read -r script; do
     # Only `run` says something of a plan. All else is the same under both words.
     words=(plain run)
     case $script in
-        */plans.sql | */analyzed.sql | */savings.sql) words=(run) ;;
+        */plans.sql | */analyzed.sql | */savings.sql | */tops.sql) words=(run) ;;
         *) ! grep -q '^EXPLAIN' "$root/$script" || words=(plain) ;;
     esac
     # The command gives no line feeds at the end, so a mark goes behind them.

@@ -298,6 +298,25 @@ class Block:
         self.every = frozenset(range(len(terms)))
         most = SAMPLE_SIZES[len(self.tables) - 1]
         self.samples = [taken(len(table.rows), min(most, len(table.rows)), drawn) for table in self.tables]
+        self.tops = [self.top(number) for number in range(len(terms))]
+
+    def key_of_index(self, entry, term):
+        """What an index of an entry for a term is of."""
+        _, predicate, args, _ = self.terms[term]
+        return (self.names[entry][0], predicate, tuple(a if a[0] == "value" else a[1] for a in args))
+
+    def top(self, term):
+        """The first score of the index of a term, as it is now, or 0 where it is empty; MAX where the term has no index or several
+        entries. A scorer answers the same to each call."""
+        entries = self.terms[term][3]
+        if len(entries) != 1:
+            return self.most(term)
+        (entry,) = entries
+        if self.key_of_index(entry, term) not in self.indexes:
+            return self.most(term)
+        others = (0,) * len(self.tables)
+        rows = [others[:entry] + (row,) + others[entry + 1 :] for row in range(1, len(self.tables[entry].rows) + 1)]
+        return max((self.run.answer(*self.call(row, term)) for row in rows), default=0)
 
     def place(self, argument, output):
         if argument[0] != "column":
@@ -389,7 +408,7 @@ class Block:
         return self.bound_by(self.run.sampled_answer, rows, terms)
 
     def bound_by(self, answer, rows, terms):
-        return sum(w * (self.worth(rows, t, answer) if t in terms else self.most(t)) for t, (w, *_) in enumerate(self.terms))
+        return sum(w * (self.worth(rows, t, answer) if t in terms else self.tops[t]) for t, (w, *_) in enumerate(self.terms))
 
     def key(self, rows, terms):
         return -self.bound(rows, terms), self.number, rows
@@ -451,9 +470,7 @@ class Block:
                 found.append(Scan(self, entry))
             if len(terms) == 1:
                 (term,) = terms
-                _, predicate, args, own = self.terms[term]
-                key = (self.names[entry][0], predicate, tuple(a if a[0] == "value" else a[1] for a in args))
-                if own == entries and key in self.indexes:
+                if self.terms[term][3] == entries and self.key_of_index(entry, term) in self.indexes:
                     found.append(IndexScan(self, entry, term))
         for term in terms:
             child = self.best(entries, terms - {term}) if self.terms[term][3] <= entries else None
@@ -503,6 +520,8 @@ class Pair:
         self.name, self.blocks, self.limit, self.every = name, (left, right), left.limit, left.every
         if len(left.items) != len(right.items):
             raise Unread
+        # The tops of both blocks are the greater ones.
+        left.tops = right.tops = list(map(max, left.tops, right.tops))
 
     def block(self, row):
         return self.blocks[row[0] - 1]

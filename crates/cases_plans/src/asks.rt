@@ -2,6 +2,7 @@
 
 ghost use Rattle.std.specs.Prelude.{◌≡◌, IfOk, false, is_err};
 ghost use Rattle.rs_expr.specs.MemScorer.{answered_score};
+ghost use Rattle.rs_query.specs.Tops.{HasTops};
 ghost use Rattle.rs_query.specs.WellFormed.{IsQuery};
 ghost use Rattle.rs_exec.specs.Cursors.{CanGo};
 ghost use Rattle.rs_catalog.specs.IndexesHold.{IndexesHold};
@@ -12,7 +13,7 @@ use rs_catalog::{Catalog, Snapshot};
 use rs_exec::{Cursor, ExecFault};
 use rs_expr::{Call, MemScorer};
 use rs_plan::{Counts, Plan};
-use rs_query::{Query, limit_of};
+use rs_query::{Query, limit_of, worths_are_within_tops};
 use rs_rank::Answer;
 use std::alloc::{AllocError, Global};
 
@@ -26,12 +27,14 @@ pub fn tell_rows(
     scorer: &mut MemScorer,
 ) -> Result<String, Fault>
     requires formed { IsQuery catalog.now query }
+    requires tops { HasTops catalog.now query }
     requires held { IndexesHold (answered_score scorer.old) catalog.now }
 {
     if !plan.valid(catalog, &query) {
         drop(query);
         return Ok(format!(in alloc; "  invalid\n")?);
     }
+    worths_are_within_tops();
     let seen = Snapshot::current(catalog);
     let mut cursor = Cursor::start(alloc, &seen, query, plan)?;
     let told = tell_cursor(alloc, &seen, &mut cursor, count, scorer);

@@ -3,6 +3,7 @@
 ghost use Rattle.rs_expr.specs.MemScorer.{answered_score};
 ghost use Rattle.rs_syntax.specs.Syntax.{query_of};
 ghost use Rattle.rs_syntax.specs.Written.{IsWrittenQuery};
+ghost use Rattle.rs_query.specs.Tops.{HasTops};
 ghost use Rattle.rs_query.specs.WellFormed.{IsQuery};
 ghost use Rattle.rs_catalog.specs.IndexesHold.{IndexesHold};
 
@@ -72,6 +73,7 @@ fn tell_bound(
     grid: &mut Grid,
 ) -> Result<String, Fault>
     requires formed { IsQuery catalog.now query }
+    requires tops { HasTops catalog.now query }
     requires held { IndexesHold (answered_score scorer.old) catalog.now }
 {
     let told = match asked {

@@ -9,6 +9,8 @@ use Rattle.rs_syntax.specs.Syntax as syntax
 use Rattle.rs_value.specs.Results.{◌>>=◌}
 use Rattle.rs_catalog.specs.Catalog.{CatalogDef}
 use Rattle.rs_query.specs.Conjuncts.{ConjunctDef}
+use Rattle.rs_query.specs.Tops.{with_tops}
+use Rattle.rs_query.proofs.BoundedFacts.{formed-tops}
 use Rattle.rs_query.specs.WellFormed.{AreSetSides, HasOutputs, IsBlock, IsColumn, IsOutput, IsQuery, IsTerm, argument_columns, same_column}
 use Rattle.rs_query.specs.declared.term.Term.{Term}
 use Rattle.rs_query.specs.declared.query.Query.{Query}
@@ -18,7 +20,7 @@ use Rattle.rs_typing.specs.declared.fault.BindFault.TheVariants.{At, Memory}
 use Rattle.rs_typing.specs.declared.fault.Why.TheVariants.{SetColumnsDiffer}
 use Rattle.rs_bind.specs.Conditions.{filter_of}
 use Rattle.rs_bind.specs.Narrow.{HasNarrowConjuncts, HaveNarrowConjuncts}
-use Rattle.rs_bind.specs.Queries.{Unranked, agree, are_outputs, block_columns, bound_query, first_item, bound_limit, output_names, needed_by, one_of, output_columns, set_of, terms_of, unranked_of, with_terms}
+use Rattle.rs_bind.specs.Queries.{Unranked, agree, are_outputs, block_columns, bound_query, typed_query, first_item, bound_limit, output_names, needed_by, one_of, output_columns, set_of, terms_of, unranked_of, with_terms}
 use Rattle.rs_bind.specs.Sources.{Found, entries_of, items_of, sources_of}
 use Rattle.rs_syntax.specs.Written.{IsWrittenBlock, IsWrittenQuery, IsWrittenTerm}
 use Rattle.rs_typing.proofs.EachFacts.{each-all, each-map, each-then}
@@ -221,7 +223,7 @@ set_of-sides catalogue query second left right terms others some_left some_right
 
 -- the query that a SELECT is is well formed
 pub formed : (catalogue : CatalogDef) (query : syntax.Query) (bound : Query) → IsWrittenQuery query → HaveNarrowConjuncts bound
-    → bound_query catalogue query ≡ Ok bound → IsQuery catalogue bound
+    → typed_query catalogue query ≡ Ok bound → IsQuery catalogue bound
 formed catalogue query bound written narrow h = go query.right refl where
   go : (right : Option (SetOp × syntax.Block)) → query.right ≡ right → IsQuery catalogue bound
   go None e =
@@ -242,7 +244,20 @@ formed catalogue query bound written narrow h = go query.right refl where
 
 -- the same of what was made
 pub IfOk-formed : (catalogue : CatalogDef) (query : syntax.Query) (result : Result Query BindFault) → IsWrittenQuery query
-    → IfOk result (λ bound. HaveNarrowConjuncts bound) → Gives Memory (bound_query catalogue query) result → IfOk result (λ bound. IsQuery catalogue bound)
+    → IfOk result (λ bound. HaveNarrowConjuncts bound) → Gives Memory (typed_query catalogue query) result → IfOk result (λ bound. IsQuery catalogue bound)
 IfOk-formed catalogue query (Ok bound) written narrow (inl h) = formed catalogue query bound written narrow (sym h)
 IfOk-formed catalogue query (Ok bound) written narrow (inr h) = cc
 IfOk-formed catalogue query (Err fault) written narrow h = tt
+
+-- so is what is bound, which has the same conditions
+narrow-typed : (catalogue : CatalogDef) (typed : Query) → HaveNarrowConjuncts (with_tops catalogue typed) → HaveNarrowConjuncts typed
+narrow-typed catalogue (One block limit) narrow = narrow
+narrow-typed catalogue (Set op left right limit) narrow = narrow
+
+pub bound-formed : (catalogue : CatalogDef) (query : syntax.Query) (bound : Query) → IsWrittenQuery query → HaveNarrowConjuncts bound
+    → bound_query catalogue query ≡ Ok bound → IsQuery catalogue bound
+bound-formed catalogue query bound written narrow is =
+    let step = Ok-steps (typed_query catalogue query) (λ typed. well (with_tops catalogue typed)) bound is in
+    let same : with_tops catalogue step.0 ≡ bound = same_Ok (with_tops catalogue step.0) bound step.2 in
+    subst (IsQuery catalogue) same
+    (formed-tops catalogue step.0 (formed catalogue query step.0 written (narrow-typed catalogue step.0 (subst HaveNarrowConjuncts (sym same) narrow)) step.1))

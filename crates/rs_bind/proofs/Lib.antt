@@ -9,6 +9,7 @@ pub mod EntryFacts
 pub mod FilterFacts
 pub mod FormedFacts
 pub mod TestFacts
+pub mod TopFacts
 pub mod ArgumentRuleFacts
 pub mod BlockRuleFacts
 pub mod QueryRuleFacts

@@ -17,6 +17,7 @@ use Rattle.rs_expr.specs.Uses.{is_kind}
 use Rattle.rs_catalog.specs.Catalog.{CatalogDef, number_named}
 use Rattle.rs_catalog.specs.declared.index.BoundArg.{BoundArg}
 use Rattle.rs_catalog.specs.declared.room.What.TheVariants as what
+use Rattle.rs_query.specs.Tops.{with_tops}
 use Rattle.rs_query.specs.WellFormed.{argument_columns, entries_mask}
 use Rattle.rs_query.specs.declared.query.Query.{Query}
 use Rattle.rs_query.specs.declared.query.Query.TheVariants.{One, Set}
@@ -34,7 +35,7 @@ use Rattle.rs_bind.specs.BlockRules.{TypesBlock}
 use Rattle.rs_bind.specs.Indexes.{Entries, arg_of, args_of, is_column, of_kind, params_in, term_args}
 use Rattle.rs_bind.specs.InOrder.{Each, none, and}
 use Rattle.rs_bind.specs.Names.{number_in}
-use Rattle.rs_bind.specs.Queries.{Unranked, agree, are_outputs, as_argument, bound_query, called, first_item, bound_limit, most_rows, most_weight, output_names, needed_by, one_of, output_columns, set_of, terms_behind, terms_of, unranked_of, with_terms}
+use Rattle.rs_bind.specs.Queries.{Unranked, agree, are_outputs, as_argument, bound_query, typed_query, called, first_item, bound_limit, most_rows, most_weight, output_names, needed_by, one_of, output_columns, set_of, terms_behind, terms_of, unranked_of, with_terms}
 use Rattle.rs_bind.specs.QueryRules.{HasPredicate, RefusedLimit, RefusedQuery, RefusedTerm, RefusedTerms, TypesLimit, TypesQuery, TypesTerm, TypesTerms, columns_in, outputs_in}
 use Rattle.rs_bind.specs.QueryRules.{too_many, wrong_weight, no_predicate, in_args, no_output, no_limit, within, outside, one_block, two_blocks, in_left, in_right, differ, in_terms, in_set_terms, in_limit, in_set_limit}
 use Rattle.rs_bind.specs.Sources.{Found, the_only}
@@ -478,23 +479,23 @@ module _ (catalogue : CatalogDef) where
           behind_agreed left right terms.0 l r agreed.0 (terms-typed catalogue (outputs_in catalogue left left) None query.terms terms.0 agreed.1) terms.2)
     ]
 
-  query-typed : (query : syntax.Query) (made : Query) → bound_query catalogue query ≡ Ok made → TypesQuery catalogue query made
+  query-typed : (query : syntax.Query) (made : Query) → typed_query catalogue query ≡ Ok made → TypesQuery catalogue query made
   query-typed query made h = go query.right refl where
     go : (right : Option (SetOp × syntax.Block)) → query.right ≡ right → TypesQuery catalogue query made
     go None e = let k = rw e at h in one-typed query made e k
     go (Some right) e = let k = rw e at h in set-typed query right.0 right.1 made e k
 
-  query-refused : (query : syntax.Query) (fault : BindFault) → bound_query catalogue query ≡ Err fault → RefusedQuery catalogue query fault
+  query-refused : (query : syntax.Query) (fault : BindFault) → typed_query catalogue query ≡ Err fault → RefusedQuery catalogue query fault
   query-refused query fault h = go query.right refl where
     go : (right : Option (SetOp × syntax.Block)) → query.right ≡ right → RefusedQuery catalogue query fault
     go None e = let k = rw e at h in one-refused query fault e k
     go (Some right) e = let k = rw e at h in set-refused query right.0 right.1 fault e k
 
   -- what a query of each form is bound by
-  bound-one : (query : syntax.Query) → query.right ≡ None → bound_query catalogue query ≡ one_of catalogue query
+  bound-one : (query : syntax.Query) → query.right ≡ None → typed_query catalogue query ≡ one_of catalogue query
   bound-one query e = rw e refl
 
-  bound-set : (query : syntax.Query) (op : SetOp) (second : syntax.Block) → query.right ≡ Some (op, second) → bound_query catalogue query ≡ set_of catalogue query op second
+  bound-set : (query : syntax.Query) (op : SetOp) (second : syntax.Block) → query.right ≡ Some (op, second) → typed_query catalogue query ≡ set_of catalogue query op second
   bound-set query op second e = rw e refl
 
   left-known : (query : syntax.Query) (block : Unranked) → TypesBlock catalogue query.left block → one_of catalogue query ≡ behind_block query block
@@ -514,7 +515,7 @@ module _ (catalogue : CatalogDef) where
       ∙ (ap (λ b. (if b then set_terms query left left else Err (At SetColumnsDiffer (first_item second.items))) >>= behind_set_terms query op left right) agreed
       ∙ ap (λ t. t >>= behind_set_terms query op left right) (terms-are catalogue (outputs_in catalogue left left) None query.terms terms each))
 
-  query-is : (query : syntax.Query) (made : Query) → TypesQuery catalogue query made → bound_query catalogue query ≡ Ok made
+  query-is : (query : syntax.Query) (made : Query) → TypesQuery catalogue query made → typed_query catalogue query ≡ Ok made
   query-is query made (one_block q block terms limit e l each is) =
       bound-one q e
       ∙ (left-known q block l
@@ -526,9 +527,9 @@ module _ (catalogue : CatalogDef) where
       ∙ (ap (λ t. t >>= behind_others q op left right terms) (terms-are catalogue (outputs_in catalogue left right) None q.terms others each_other)
       ∙ ap (λ n. n >>= with_set_limit op left right terms others) (limit-is q.limit limit is)))
 
-  query-is_refused : (query : syntax.Query) (fault : BindFault) → RefusedQuery catalogue query fault → bound_query catalogue query ≡ Err fault
+  query-is_refused : (query : syntax.Query) (fault : BindFault) → RefusedQuery catalogue query fault → typed_query catalogue query ≡ Err fault
   query-is_refused query fault (in_left q f refused) = go q.right refl where
-    go : (right : Option (SetOp × syntax.Block)) → q.right ≡ right → bound_query catalogue q ≡ Err f
+    go : (right : Option (SetOp × syntax.Block)) → q.right ≡ right → typed_query catalogue q ≡ Err f
     go None e = bound-one q e ∙ ap (λ r. r >>= behind_block q) (block-is_refused catalogue q.left f refused)
     go (Some right) e = bound-set q right.0 right.1 e ∙ ap (λ r. r >>= behind_left q right.0 right.1) (block-is_refused catalogue q.left f refused)
   query-is_refused query fault (in_right q op second left f e l refused) =
@@ -559,11 +560,29 @@ module _ (catalogue : CatalogDef) where
       ∙ (ap (λ t. t >>= behind_others q op left right terms) others.1
       ∙ ap (λ n. n >>= with_set_limit op left right terms others.0) (limit-is_refused q.limit f refused)))
 
-  pub queries_typed_by_rules : (query : syntax.Query) (made : Query) → (bound_query catalogue query ≡ Ok made) ↔ TypesQuery catalogue query made
+  pub queries_typed_by_rules : (query : syntax.Query) (made : Query) → (typed_query catalogue query ≡ Ok made) ↔ TypesQuery catalogue query made
   queries_typed_by_rules query made = (λ h. query-typed query made h, λ h. query-is query made h)
 
-  pub queries_refused_by_rules : (query : syntax.Query) (fault : BindFault) → (bound_query catalogue query ≡ Err fault) ↔ RefusedQuery catalogue query fault
+  pub queries_refused_by_rules : (query : syntax.Query) (fault : BindFault) → (typed_query catalogue query ≡ Err fault) ↔ RefusedQuery catalogue query fault
   queries_refused_by_rules query fault = (λ h. query-refused query fault h, λ h. query-is_refused query fault h)
+
+  -- what is bound is what is typed, with its tops
+  pub queries_bound_by_rules : (query : syntax.Query) (made : Query) → (bound_query catalogue query ≡ Ok made) ↔ ((typed : Query) × TypesQuery catalogue query typed × (with_tops catalogue typed ≡ made))
+  queries_bound_by_rules query made = (
+    λ h.
+        let step = Ok-steps (typed_query catalogue query) (λ typed. well (with_tops catalogue typed)) made h in
+        (step.0, query-typed query step.0 step.1, same_Ok (with_tops catalogue step.0) made step.2),
+    λ h. ap (λ r. r >>= λ typed. well (with_tops catalogue typed)) (query-is query h.0 h.1) ∙ ap well h.2,
+  )
+
+  pub queries_not_bound_by_rules : (query : syntax.Query) (fault : BindFault) → (bound_query catalogue query ≡ Err fault) ↔ RefusedQuery catalogue query fault
+  queries_not_bound_by_rules query fault = (
+    λ h. elim (Err-steps (typed_query catalogue query) (λ typed. well (with_tops catalogue typed)) fault h) [
+      | inl refused ↦ query-refused query fault refused
+      | inr typed ↦ absurd (let same = typed.2 in cc)
+    ],
+    λ h. ap (λ r. r >>= λ typed. well (with_tops catalogue typed)) (query-is_refused query fault h),
+  )
 
   pub typed_once : (query : syntax.Query) (made other : Query) → TypesQuery catalogue query made → TypesQuery catalogue query other → made ≡ other
   typed_once query made other h k =

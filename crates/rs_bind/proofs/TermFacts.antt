@@ -193,7 +193,7 @@ module _ (catalogue : CatalogDef) (block : Block) (entries : Entries) (are : Are
         entries = refl;
         some_weight = within.0;
         most_weight = within.1;
-        max = is_max;
+        max = omega (arith, is_max);
       }
 
   -- terms behind this many others

@@ -17,6 +17,7 @@ use Rattle.rs_catalog.specs.Catalog.{CatalogDef, number_named}
 use Rattle.rs_catalog.specs.declared.index.BoundArg.{BoundArg}
 use Rattle.rs_catalog.specs.declared.index.BoundArg.TheVariants as bound
 use Rattle.rs_catalog.specs.declared.room.What.TheVariants as what
+use Rattle.rs_query.specs.Tops.{with_tops}
 use Rattle.rs_query.specs.WellFormed.{argument_columns, entries_mask, same_column}
 use Rattle.rs_query.specs.declared.block.Block.{Block}
 use Rattle.rs_query.specs.declared.term.Term.{Term}
@@ -175,12 +176,16 @@ set_of catalogue query op second = do
   limit ← bound_limit query.limit
   Ok (Set op (with_terms left terms) (with_terms right others) limit)
 
--- the query that a SELECT is
-abbrev pub bound_query : CatalogDef → syntax.Query → Result Query BindFault
-bound_query catalogue query = of query.right where
+-- the query that a SELECT is by the rules of typing; a term's maximum is the greatest score of its predicate
+abbrev pub typed_query : CatalogDef → syntax.Query → Result Query BindFault
+typed_query catalogue query = of query.right where
   of : Option (SetOp × syntax.Block) → Result Query BindFault
   of None = one_of catalogue query
   of (Some right) = set_of catalogue query right.0 right.1
+
+-- the query that a SELECT is: its terms have their tops as maxima
+abbrev pub bound_query : CatalogDef → syntax.Query → Result Query BindFault
+bound_query catalogue query = typed_query catalogue query >>= λ typed. Ok (with_tops catalogue typed)
 
 -- the number in FETCH
 abbrev pub count_of : ℤ × Span → Result ℕ BindFault

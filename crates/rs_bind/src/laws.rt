@@ -15,6 +15,7 @@ ghost use Rattle.rs_syntax.specs.declared.row.RowSyn.{RowSyn};
 ghost use Rattle.rs_table.specs.Column.{Column};
 ghost use Rattle.rs_value.specs.declared.kind.Kind.{Kind as ValueKind};
 ghost use Rattle.rs_value.specs.declared.value.Value.{Value};
+ghost use Rattle.rs_query.specs.Tops.{with_tops};
 ghost use Rattle.rs_query.specs.declared.query.Query.{Query};
 ghost use Rattle.rs_query.specs.declared.term.Term.{Term as BoundTerm};
 ghost use Rattle.rs_typing.specs.References.{references_of};
@@ -31,7 +32,7 @@ ghost use Rattle.rs_bind.specs.InsertRules.{RefusedInsert, TypesInsert};
 ghost use Rattle.rs_bind.specs.Inserts.{insert_of};
 ghost use Rattle.rs_bind.specs.Names.{columns_of, most_columns};
 ghost use Rattle.rs_bind.specs.Predicates.{predicate_of};
-ghost use Rattle.rs_bind.specs.Queries.{Unranked as UnrankedBlock, bound_query, count_of, most_rows, with_terms};
+ghost use Rattle.rs_bind.specs.Queries.{Unranked as UnrankedBlock, bound_query, count_of, most_rows, typed_query, with_terms};
 ghost use Rattle.rs_bind.specs.QueryRules.{RefusedQuery, TypesQuery};
 ghost use Rattle.rs_bind.specs.Sources.{Source, column_in, sources_of};
 ghost use Rattle.rs_bind.specs.StatementRules.{RefusedIndex, RefusedNames, RefusedPredicate, TypesIndex, TypesNames, TypesPredicate};
@@ -53,10 +54,12 @@ pub fn conjuncts_mean_where()
         → (places_in (named_columns sources x) sources c ≡ Err fault) ↔ (column_in sources c ≡ Err fault)) (references_of x) }
 {}
 
-/// A SELECT is one query at most, as the rules say, or refused with one fault, that of the first rule that fails; it is
-/// never both.
+/// A SELECT is typed as one query at most, as the rules say, or refused with one fault, that of the first rule that fails; it is
+/// never both. It is bound as that query with its tops.
 pub fn queries_are_typed_by_rules()
-    ensures typed { (catalogue : CatalogDef) (select : Select) (query : Query) → (bound_query catalogue select ≡ Ok query) ↔ TypesQuery catalogue select query }
+    ensures typed { (catalogue : CatalogDef) (select : Select) (query : Query) → (typed_query catalogue select ≡ Ok query) ↔ TypesQuery catalogue select query }
+    ensures bound { (catalogue : CatalogDef) (select : Select) (query : Query) → (bound_query catalogue select ≡ Ok query)
+        ↔ ((typed : Query) × TypesQuery catalogue select typed × (with_tops catalogue typed ≡ query)) }
     ensures refused { (catalogue : CatalogDef) (select : Select) (fault : BindFault)
         → (bound_query catalogue select ≡ Err fault) ↔ RefusedQuery catalogue select fault }
     ensures one { (catalogue : CatalogDef) (select : Select) (query other : Query) → TypesQuery catalogue select query → TypesQuery catalogue select other

@@ -22,6 +22,7 @@ mod sources;
 mod table;
 mod term;
 mod terms;
+mod tops;
 mod unranked;
 
 pub use count::bind_count;

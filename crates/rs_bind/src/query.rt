@@ -2,11 +2,12 @@ ghost use Rattle.std.specs.Prelude.{IfOk, ◌≤◌, ◌<◌, length};
 ghost use Rattle.std.specs.List.{AllByRecursion};
 ghost use Rattle.rs_value.specs.Answer.{Gives};
 ghost use Rattle.rs_syntax.specs.Syntax.{block_of, query_of};
+ghost use Rattle.rs_query.specs.Tops.{HasTops};
 ghost use Rattle.rs_query.specs.WellFormed.{IsQuery};
 ghost use Rattle.rs_bind.specs.Indexes.{columns_in};
 ghost use Rattle.rs_bind.specs.Names.{most_columns};
 ghost use Rattle.rs_bind.specs.Narrow.{HaveNarrowConjuncts};
-ghost use Rattle.rs_bind.specs.Queries.{block_columns, bound_query, needed_by, one_of, output_columns, set_of, terms_of};
+ghost use Rattle.rs_bind.specs.Queries.{block_columns, bound_query, needed_by, one_of, output_columns, set_of, terms_of, typed_query};
 ghost use Rattle.rs_bind.specs.Sources.{most_entries, sources_of};
 ghost use Rattle.rs_bind.specs.Terms.{IsEntryItem};
 ghost use Rattle.rs_syntax.specs.Written.{IsWrittenQuery};
@@ -14,6 +15,7 @@ ghost use Rattle.rs_syntax.specs.Written.{IsWrittenQuery};
 use crate::outputs::OutputColumns;
 use crate::sources::Sources;
 use crate::terms::{bind_terms, limit_of};
+use crate::tops::with_tops;
 use crate::unranked::{
     Unranked, agree, bind_unranked, first_item, names_of, needed_by, with_terms,
 };
@@ -26,10 +28,22 @@ use std::alloc::Global;
 
 /// The query of a SELECT. The rules are looked at in this order: those of the left block, of the right block, that their
 /// output columns agree (`SetColumnsDiffer`), those of the terms from left to right, and that of LIMIT. In a block they are
-/// those of the FROM entries from left to right, of the condition, and of the output columns from left to right.
+/// those of the FROM entries from left to right, of the condition, and of the output columns from left to right. The maxima of the
+/// terms are their tops, as the rank indexes are now.
 pub fn bind(alloc: Global, catalog: &Catalog, select: &Select) -> Result<Query, BindFault>
     requires written { IsWrittenQuery (query_of select.now) }
     ensures gives { Gives BindFault.Memory (bound_query catalog.now (query_of select.now)) result }
+    ensures formed { IfOk result (λ query. IsQuery catalog.now query) }
+    ensures tops { IfOk result (λ query. HasTops catalog.now query) }
+{
+    let typed = bind_typed(alloc, catalog, select)?;
+    Ok(with_tops(catalog, typed))
+}
+
+/// The query of a SELECT, where each term's maximum is the greatest score of its predicate.
+fn bind_typed(alloc: Global, catalog: &Catalog, select: &Select) -> Result<Query, BindFault>
+    requires written { IsWrittenQuery (query_of select.now) }
+    ensures gives { Gives BindFault.Memory (typed_query catalog.now (query_of select.now)) result }
     ensures formed { IfOk result (λ query. IsQuery catalog.now query) }
 {
     match &select.right {

@@ -20,7 +20,8 @@ use Rattle.rs_exec.specs.Standing.{Stands}
 use Rattle.rs_exec.specs.declared.fault.ExecFault.{ExecFault}
 use Rattle.rs_exec.specs.declared.fault.ExecFault.TheVariants.{Memory}
 use Rattle.rs_exec.specs.declared.node.PlanNode.{PlanNode}
-use Rattle.rs_exec.proofs.CursorFacts.{cursor-after, cursor-can, first-block, next-fault, next-given}
+use Rattle.rs_exec.proofs.BlockFacts.{first-block}
+use Rattle.rs_exec.proofs.CursorFacts.{cursor-after, cursor-can, next-fault, next-given}
 use Rattle.rs_exec.proofs.TurnFacts.{node-number}
 use Rattle.rs_exec.proofs.PlacesFacts.{can-put_out, plan-entries, plan-part, row-placed}
 

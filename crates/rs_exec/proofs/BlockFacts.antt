@@ -31,6 +31,11 @@ light-terms catalogue block is = each-weaker (IsTerm catalogue block) (λ (term 
 pub few-entries : (catalogue : CatalogDef) (query : Query) (number : ℕ) → IsQuery catalogue query → length (block_in query number).from ≤ 6
 few-entries catalogue query number formed = let is = block-formed catalogue query number formed in is.most_entries
 
+-- each query has a first block
+pub first-block : (query : Query) → HasBlock query 1
+first-block (One block limit) = refl
+first-block (Set op left right limit) = inl refl
+
 -- a query sees all rows of its tables
 pub sizes-are : (catalogue : CatalogDef) (answer : Answering) (query : Query) (number : ℕ) → HasBlock query number
     → sizes_in (world_of catalogue answer query) number ≡ sizes_of catalogue (block_in query number)

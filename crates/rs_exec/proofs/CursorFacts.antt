@@ -1,5 +1,5 @@
 -- A cursor over the nodes of its plan.
-use Rattle.std.proofs.Common.{◌≡◌, ℕ, suc, ◌≤◌, false, inl, [], length, refl, sym, ap, subst, append-nil, arith}
+use Rattle.std.proofs.Common.{◌≡◌, ℕ, suc, ◌≤◌, false, [], length, refl, sym, ap, subst, append-nil, arith}
 use Rattle.std.specs.Prelude.{Option, Ok, Err, nat_lt, option_map, slice_get}
 use Rattle.std.specs.List.{AllByRecursion}
 use Rattle.std.proofs.lemmas.Bool.{ltb-false, or_parts}
@@ -13,14 +13,19 @@ use Rattle.rs_query.specs.Answers.{limit_of, weights_of}
 use Rattle.rs_query.specs.Tables.{sizes_of}
 use Rattle.rs_query.specs.WellFormed.{IsQuery}
 use Rattle.rs_query.specs.declared.query.Query.{Query}
-use Rattle.rs_query.specs.declared.query.Query.TheVariants.{One, Set}
 use Rattle.rs_query.proofs.QuestionFacts.{AllAsked-none, Gave-ok, Inquires-asked, Inquires-fault}
 use Rattle.rs_plan.specs.Calls.{questions_of_ask}
 use Rattle.rs_plan.specs.Lists.{World, list_of_plan}
 use Rattle.rs_query.specs.Blocks.{block_in}
 use Rattle.rs_plan.specs.Trees.{PlanTree}
 use Rattle.rs_plan.specs.Plans.{IsPlan}
-use Rattle.rs_exec.specs.Asked.{CanAsk, HasBlock, NodeAfter}
+use Rattle.rs_order.specs.Climbing.{In}
+use Rattle.rs_query.specs.Combinations.{combinations}
+use Rattle.rs_query.specs.Tops.{IsBounded}
+use Rattle.rs_query.proofs.BoundedFacts.{bounded-view}
+use Rattle.rs_query.proofs.GrowthFacts.{IsSizes-all}
+use Rattle.rs_exec.specs.Asked.{CanAsk, IsBoundedWorld, NodeAfter}
+use Rattle.rs_exec.proofs.BlockFacts.{block-formed, first-block, sizes-are}
 use Rattle.rs_exec.specs.Asking.{exec_faults, next_row, world_of}
 use Rattle.rs_exec.specs.Cursors.{CursorState, StandsFor, answer_for, asks_of, is_limit, is_over, next_answer, plan_of}
 use Rattle.rs_exec.specs.declared.fault.ExecFault.{ExecFault}
@@ -32,16 +37,19 @@ use Rattle.rs_exec.specs.declared.node.PlanNode.{PlanNode}
 use Rattle.rs_exec.proofs.PlacesFacts.{list-few-of, plan-part}
 use Rattle.rs_exec.proofs.SetStartFacts.{query-asked, query-stands, query-tree}
 
-pub first-block : (query : Query) → HasBlock query 1
-first-block (One block limit) = refl
-first-block (Set op left right limit) = inl refl
+-- a query that sees all rows of its tables sees no worth that passes a maximum
+bounded-world : (catalogue : CatalogDef) (answer : Answering) (query : Query) → IsQuery catalogue query → IsBounded answer catalogue query → IsBoundedWorld (world_of catalogue answer query)
+bounded-world catalogue answer query formed bounded number has mask rows term inside there within =
+    let block = block_in query number in
+    bounded-view answer catalogue query number (sizes_of catalogue block) mask rows term bounded (IsSizes-all catalogue block (block-formed catalogue query number formed))
+    (subst (λ sizes. In rows (combinations catalogue block sizes mask)) (sizes-are catalogue answer query number has) inside) there within
 
 -- a cursor whose nodes were made for a plan stands
 pub cursor-start : (catalogue : CatalogDef) (answer : Answering) (query : Query) (tree : PlanTree) (root : PlanNode) → IsQuery catalogue query → IsPlan catalogue query tree
     → ((number : ℕ) → AllByRecursion (λ size. size ≤ 131072) (sizes_of catalogue (block_in query number))) → IsWeights (weights_of (block_in query 1))
-    → PlanIndexesHold answer catalogue tree → IsQueryStart catalogue query tree root
+    → PlanIndexesHold answer catalogue tree → IsBounded answer catalogue query → IsQueryStart catalogue query tree root
     → StandsFor catalogue answer (record { query = query; root = root; failed = false })
-cursor-start catalogue answer query tree root formed plan tables weights indexes is =
+cursor-start catalogue answer query tree root formed plan tables weights indexes bounded is =
     let w = world_of catalogue answer query in
     let same = query-tree catalogue query tree root is in
     let unasked = query-asked catalogue query tree root is in
@@ -50,9 +58,10 @@ cursor-start catalogue answer query tree root formed plan tables weights indexes
       query = formed;
       plan = subst (IsPlan catalogue query) (sym same) plan;
       indexes = subst (PlanIndexesHold answer catalogue) (sym same) indexes;
+      bounded = bounded;
       tables = tables;
       weights = weights;
-      nodes = query-stands catalogue answer query tree root formed weights plan is;
+      nodes = query-stands catalogue answer query tree root formed (bounded-world catalogue answer query formed bounded) weights plan is;
       asks = omega arith;
     }
 
@@ -70,6 +79,7 @@ cursor-can catalogue answer cursor stands more =
       number_is = number;
       part = part;
       indexes = stands.indexes;
+      bounded = bounded-world catalogue answer cursor.query stands.query stands.bounded;
       weights = stands.weights;
       more = ltb-false (length (list_of_plan w tree)) (asks_of cursor)
           (or_parts (is_limit (limit_of cursor.query) (asks_of cursor)) (nat_lt (length (list_of_plan w tree)) (asks_of cursor)) more).1;
@@ -92,6 +102,7 @@ cursor-after catalogue answer cursor root stands can after =
       query = stands.query;
       plan = subst (IsPlan catalogue cursor.query) (sym after.tree_is) stands.plan;
       indexes = subst (PlanIndexesHold answer catalogue) (sym after.tree_is) stands.indexes;
+      bounded = stands.bounded;
       tables = stands.tables;
       weights = stands.weights;
       nodes = after.stands;

@@ -78,7 +78,7 @@ drops-start catalogue query head child old can stands below tally asks =
     let number = number_in child in
     let t = tree_in child in
     let a = head.tally.asked in
-    let first = taken w number t can.formed can.part can.weights a can.more in
+    let first = taken w number t can.formed (can.bounded number can.number_is) can.part can.weights a can.more in
     record {
       made = child_asks w number (Distinct t) a;
       turn = turn-start catalogue query number (Distinct t) old head.tally (one_child child) can
@@ -104,7 +104,7 @@ module _ {catalogue : CatalogDef} {query : Query} {number : ℕ} {child : PlanTr
       let within = during.core.within in
       let size = outputs-length w number child in
       let inside : asks ≤ length (list_of w number child) = omega arith in
-      turn-alone during.turn can (distinct-child_asks w number child (suc a)) (asks-less w number child can.formed can.part can.weights asks a inside during.counted)
+      turn-alone during.turn can (distinct-child_asks w number child (suc a)) (asks-less w number child can.formed (can.bounded number can.number_is) can.part can.weights asks a inside during.counted)
 
   module _ {n : PlanNode} (is : on Left ≡ Some n) (got : Option RankRow) (middle : ScorerState)
       (answered : Inquires Memory (next_row (world_of catalogue now.answer query) (number_in n) (tree_in n) (asked_in n)) (Ok got) now middle) where
@@ -226,9 +226,9 @@ module _ {catalogue : CatalogDef} {query : Query} {number : ℕ} {child : PlanTr
       let exact : suc done ≡ asked_of whole number operator (suc a) Left =
       given-asks key_cmp key_cmp-total key all_rows (outputs-climb whole number child) done (output_row whole row) there new_values
       ∙ ap (λ count. asks_for key_cmp key all_rows (bar_after key (firsts all_rows) count)) during.counted
-      ∙ sym (distinct-asks whole number child can.formed can.part can.weights a) in
+      ∙ sym (distinct-asks whole number child can.formed (can.bounded number can.number_is) can.part can.weights a) in
       let value : Some row ≡ slice_get (list_of whole number operator) a =
-      row-at whole number child can.formed can.part can.weights a row
+      row-at whole number child can.formed (can.bounded number can.number_is) can.part can.weights a row
       (ap (slice_get (firsts all_rows)) (sym during.counted) ∙ first-next all_rows done (output_row whole row) there new_values) in
       left-then after (record head.core { lists = with_list (values_for catalogue query row) head.core.lists }) given exact (given_row ∙ value)
       (fed-is during can refl got middle answered row is_row).state
@@ -249,10 +249,10 @@ module _ {catalogue : CatalogDef} {query : Query} {number : ℕ} {child : PlanTr
       let now_all = take_all done all_rows (omega arith) in
       let then_all = take_all (suc done) all_rows (omega arith) in
       let all : length (firsts all_rows) ≡ a = sym (ap (λ (xs : List OutputRow). length (firsts xs)) now_all) ∙ during.counted in
-      let rest = distinct-length whole number child can.formed can.part can.weights in
+      let rest = distinct-length whole number child can.formed (can.bounded number can.number_is) can.part can.weights in
       let exact : suc done ≡ asked_of whole number operator (suc a) Left =
       (let count : suc done ≡ suc (length all_rows) = omega arith in count)
-      ∙ sym (distinct-asks whole number child can.formed can.part can.weights a
+      ∙ sym (distinct-asks whole number child can.formed (can.bounded number can.number_is) can.part can.weights a
       ∙ ap (λ count. asks_for key_cmp key all_rows (bar_after key (firsts all_rows) count)) (sym all) ∙ all-asks key all_rows) in
       left-then head head.core None exact (sym (slice_get_past (list_of whole number operator) a (omega arith)))
       (during.core.state ∙ ap (λ (xs : List OutputRow). record { lists = lists_of xs; spent = false }) (now_all ∙ sym then_all)) refl refl refl

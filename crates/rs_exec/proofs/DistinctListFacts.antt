@@ -1,8 +1,9 @@
 -- The list of an operator that drops duplicates: of the rows of its input, in the order of their keys, the first one of each list of
 -- output values.
-use Rattle.std.proofs.Common.{◌≡◌, ◌∙◌, ℕ, suc, Bool, true, false, not, cond, ◌++◌, List, [], ◌∷◌, map, refl, sym, ap, ap₂, subst, arith, append-nil}
+use Rattle.std.proofs.Common.{◌≡◌, ◌∙◌, ℕ, suc, Bool, true, false, not, cond, ◌++◌, List, [], ◌∷◌, map, refl, sym, ap, ap₂, subst, inr, arith, append-nil}
 use Rattle.std.specs.List.{AllByRecursion, filter}
 use Rattle.rs_order.specs.Climbing.{Climbs, In, Precedes}
+use Rattle.rs_order.proofs.ClimbingFacts.{AllByRecursion-from_In}
 use Rattle.rs_order.specs.Sorting.{sorted}
 use Rattle.rs_order.proofs.ItemFacts.{In-map-back}
 use Rattle.rs_order.proofs.PartFacts.{sorted-map}
@@ -35,6 +36,8 @@ use Rattle.rs_exec.specs.OutputValues.{output_row, outputs_in}
 use Rattle.rs_exec.proofs.AlikeFacts.{IsAlike, same-sums}
 use Rattle.rs_exec.proofs.ListFacts.{sources-rise}
 use Rattle.rs_exec.proofs.SourceFacts.{ids-rows, ids_in, sources-combinations}
+use Rattle.rs_exec.specs.Asked.{HasBoundedWorths}
+use Rattle.rs_exec.proofs.PartMaskFacts.{terms-inside}
 use Rattle.rs_exec.proofs.SumFacts.{row-sum}
 
 -- what passes a test, made from what passes another one
@@ -95,7 +98,7 @@ module _ (w : World) (mask : ℕ) where
   rows-show number (rows ∷ rest) = (refl, rows-show number rest)
 
 -- the part of a block below an operator that drops duplicates
-module _ (w : World) (number : ℕ) (child : PlanTree) (formed : IsQuery w.catalogue w.query) (part : IsPart w.catalogue (numbered_block w number) (Distinct child))
+module _ (w : World) (number : ℕ) (child : PlanTree) (formed : IsQuery w.catalogue w.query) (bounded : HasBoundedWorths w number) (part : IsPart w.catalogue (numbered_block w number) (Distinct child))
     (weights : IsWeights (weights_in w)) where
   abbrev mask : ℕ
   mask = terms child
@@ -119,12 +122,18 @@ module _ (w : World) (number : ℕ) (child : PlanTree) (formed : IsQuery w.catal
   sides = record { weights = weights_in w; terms = terms child; left_block = number; right_block = suc number }
 
   -- they are the rows of one side
-  each-row : (rows : List (List ℕ)) → AllByRecursion (IsRowOf (record { weights = weights_in w; terms = terms child; left_block = number; right_block = suc number }) number)
+  each-row : (rows : List (List ℕ))
+      → AllByRecursion (λ (r : List ℕ). In r (combinations w.catalogue (numbered_block w number) (sizes_in w number) (all_entries (numbered_block w number)))) rows → AllByRecursion (IsRowOf (record { weights = weights_in w; terms = terms child; left_block = number; right_block = suc number }) number)
       (map (output_of w (terms child)) (map (answer_row w.answer w.catalogue (numbered_block w number) number) rows))
-  each-row [] = tt
-  each-row (rows ∷ rest) = (
-    record { block = refl; sum = row-sum w (terms child) (record { block = number; mask = all_entries (numbered_block w number); rows = rows }) formed },
-    each-row rest,
+  each-row [] inside = tt
+  each-row (rows ∷ rest) inside = (
+    record {
+      block = refl;
+      sum = row-sum w number child (record { block = number; mask = all_entries (numbered_block w number); rows = rows }) formed
+          (terms-inside w.catalogue (numbered_block w number) child part.0)
+          (record { own = all_entries (numbered_block w number); combined = inside.0; place = inr refl; bounded = bounded });
+    },
+    each-row rest inside.1,
   )
 
   rising : (rows : List Answer) → Climbs ids_cmp (λ (i : Ids). i) (ids_in rows) → Climbs ids_cmp (λ (row : OutputRow). row.row.ids) (map (output_of w (terms child)) rows)
@@ -145,7 +154,9 @@ module _ (w : World) (number : ℕ) (child : PlanTree) (formed : IsQuery w.catal
   bases = record {
     limits = weights;
     blocks = omega arith;
-    left_rows = each-row (combinations w.catalogue (numbered_block w number) (sizes_in w number) (all_entries (numbered_block w number)));
+    left_rows = each-row (combinations w.catalogue (numbered_block w number) (sizes_in w number) (all_entries (numbered_block w number)))
+        (AllByRecursion-from_In (λ (r : List ℕ). In r (combinations w.catalogue (numbered_block w number) (sizes_in w number) (all_entries (numbered_block w number))))
+        (combinations w.catalogue (numbered_block w number) (sizes_in w number) (all_entries (numbered_block w number))) (λ r h. h));
     right_rows = tt;
     left_rising = rising all (subst (λ (ids : List Ids). Climbs ids_cmp (λ (i : Ids). i) ids) below (sources-rise w number child));
     right_rising = tt;

@@ -26,6 +26,7 @@ use Rattle.rs_plan.specs.Lists.{World, key_under, list_of, numbered_block, weigh
 use Rattle.rs_plan.specs.Plans.{IsPart}
 use Rattle.rs_plan.specs.Trees.{Distinct, PlanTree, terms}
 use Rattle.rs_exec.specs.OutputValues.{output_row, outputs_in}
+use Rattle.rs_exec.specs.Asked.{HasBoundedWorths}
 use Rattle.rs_exec.proofs.DistinctListFacts.{distinct-outputs, output_key}
 use Rattle.rs_exec.proofs.ListFacts.{list-climbs}
 use Rattle.rs_exec.proofs.RankFacts.{bar_after-map, left-asks, length-filter-map}
@@ -90,7 +91,7 @@ module _ (w : World) (number : ℕ) (child : PlanTree) where
   distinct-child_asks (suc n) =
       ap (asks_from Left 1) (sym (left-asks 1 (asks_for key_cmp (λ (k : Key). k) (keys_of w number child) (bar_of w number (Distinct child) n))))
 
-  module _ (formed : IsQuery w.catalogue w.query) (part : IsPart w.catalogue (numbered_block w number) (Distinct child)) (weights : IsWeights (weights_in w)) where
+  module _ (formed : IsQuery w.catalogue w.query) (bounded : HasBoundedWorths w number) (part : IsPart w.catalogue (numbered_block w number) (Distinct child)) (weights : IsWeights (weights_in w)) where
     -- how often the input was asked
     pub distinct-asks : (n : ℕ) → asked_of w number (Distinct child) (suc n) Left
         ≡ asks_for key_cmp (output_key w (terms child)) (outputs_in w number child) (bar_after (output_key w (terms child)) (firsts (outputs_in w number child)) n)
@@ -102,12 +103,12 @@ module _ (w : World) (number : ℕ) (child : PlanTree) where
         ∙ ap (asks_for key_cmp key rows)
         (ap (λ (keys : List Key). bar_after (λ (k : Key). k) keys n) (sym (keys-outputs (list_of w number (Distinct child))))
         ∙ bar_after-map key (outputs_in w number (Distinct child)) n
-        ∙ ap (λ (all : List OutputRow). bar_after key all n) (distinct-outputs w number child formed part weights))
+        ∙ ap (λ (all : List OutputRow). bar_after key all n) (distinct-outputs w number child formed bounded part weights))
 
     -- as many rows as there are first ones
     pub distinct-length : length (list_of w number (Distinct child)) ≡ length (firsts (outputs_in w number child))
     distinct-length =
-        sym (length-map (list_of w number (Distinct child)) (output_row w)) ∙ ap (λ (all : List OutputRow). length all) (distinct-outputs w number child formed part weights)
+        sym (length-map (list_of w number (Distinct child)) (output_row w)) ∙ ap (λ (all : List OutputRow). length all) (distinct-outputs w number child formed bounded part weights)
 
     -- as far as this many answers take the input gave as many first ones
     pub record Taken (a : ℕ) : Type 0 where
@@ -134,7 +135,7 @@ module _ (w : World) (number : ℕ) (child : PlanTree) where
     row-at a row there =
         go (slice_get (list_of w number (Distinct child)) a)
         (sym (slice_get-map (output_row w) (list_of w number (Distinct child)) a)
-        ∙ ap (λ (all : List OutputRow). slice_get all a) (distinct-outputs w number child formed part weights) ∙ there) where
+        ∙ ap (λ (all : List OutputRow). slice_get all a) (distinct-outputs w number child formed bounded part weights) ∙ there) where
           go : (found : Option RankRow) → option_map (output_row w) found ≡ Some (output_row w row) → Some row ≡ found
           go None e = absurd (cc)
           go (Some r) e = sym (ap (option_map (λ (o : OutputRow). o.row)) e)

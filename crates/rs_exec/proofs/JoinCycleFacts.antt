@@ -85,6 +85,7 @@ pub join-parts : (catalogue : CatalogDef) (query : Query) (number : ℕ) (kind :
     → CanAsk (world_of catalogue old.answer query) number (JoinOperator kind left right) a → CanJoinParts (world_of catalogue old.answer query) number left right
 join-parts catalogue query number kind left right a old can = record {
   formed = can.formed;
+  bounded = can.bounded number can.number_is;
   weights = can.weights;
   view = subst (λ (sizes : List ℕ). IsView sizes (sizes_of catalogue (block_in query number))) (sym (sizes-are catalogue old.answer query number can.number_is))
       (IsView-itself (sizes_of catalogue (block_in query number)));

@@ -1,5 +1,5 @@
 -- The list of a join is made of the rows of its sides that match, merged, in the order of their keys.
-use Rattle.std.proofs.Common.{◌≡◌, ◌∙◌, ℕ, zero, suc, ◌+◌, ◌*◌, ◌/◌, ◌%◌, Bool, true, false, cond, eqb, List, [], ◌∷◌, length, map, bit_or, refl, sym, ap, ap₂, subst}
+use Rattle.std.proofs.Common.{◌≡◌, ◌∙◌, ℕ, zero, suc, ◌+◌, ◌*◌, ◌/◌, ◌%◌, Bool, true, false, cond, eqb, List, [], ◌∷◌, length, map, bit_or, refl, sym, ap, ap₂, subst, inl}
 use Rattle.std.specs.Int.{bit_at}
 use Rattle.std.specs.Prelude.{Some, slice_get}
 use Rattle.std.proofs.lemmas.Bool.{eqb-true}
@@ -45,6 +45,7 @@ use Rattle.rs_exec.specs.Joining.{join_for, side_for}
 use Rattle.rs_exec.proofs.ListFacts.{list-climbs, list-others, unsorted}
 use Rattle.rs_exec.proofs.PartMaskFacts.{can-join, entries-few, terms-apart, terms-inside}
 use Rattle.rs_exec.proofs.StepFacts.{block-formed}
+use Rattle.rs_exec.specs.Asked.{HasBoundedWorths}
 use Rattle.rs_exec.proofs.SumFacts.{row-sum}
 
 -- the sum over the terms in a mask, by what each of these gives
@@ -120,6 +121,7 @@ module _ (w : World) (number : ℕ) where
 -- two parts of a plan of a block that can be joined
 pub record CanJoinParts (w : World) (number : ℕ) (left right : PlanTree) : Type 0 where
   pub formed : IsQuery w.catalogue w.query
+  pub bounded : HasBoundedWorths w number
   pub weights : IsWeights (weights_in w)
   pub view : IsView (sizes_in w number) (sizes_of w.catalogue (numbered_block w number))
   pub left_part : IsPart w.catalogue (numbered_block w number) left
@@ -235,7 +237,8 @@ module _ (w : World) (number : ℕ) (left right : PlanTree) (can : CanJoinParts 
           };
           entries = refl;
           block = refl;
-          sum = row-sum w (terms tree) (ids_at number (entries tree) is.rows) can.formed;
+          sum = row-sum w number tree (ids_at number (entries tree) is.rows) can.formed (terms-inside w.catalogue (numbered_block w number) tree part)
+              (record { own = entries tree; combined = is.is_in; place = inl (refl, refl); bounded = can.bounded });
         }));
     rising = list-climbs w number tree;
     others = list-others w number tree;

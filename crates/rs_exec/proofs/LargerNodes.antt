@@ -1,14 +1,16 @@
 -- A cursor that stands goes on to stand in a larger catalogue: it reads nothing of what joined.
-use Rattle.std.proofs.Common.{◌≡◌, ◌∙◌, ℕ, zero, suc, ◌-◌, ◌≤◌, ◌==◌, false, List, [], ◌∷◌, length, map, take, bit_or, refl, sym, ap, subst}
+use Rattle.std.proofs.Common.{◌≡◌, ◌∙◌, ℕ, zero, suc, ◌-◌, ◌≤◌, ◌==◌, true, false, List, [], ◌∷◌, length, map, take, bit_or, refl, sym, ap, subst}
 use Rattle.std.specs.Prelude.{if◌then◌else◌, min, nat_le, slice_get, slice_index, unwrap_or}
 use Rattle.std.specs.List.{filter, AllByRecursion}
-use Rattle.rs_query.specs.Tables.{sizes_of}
+use Rattle.rs_query.specs.Tables.{HasRows, row_number, sizes_of}
+use Rattle.rs_query.specs.Tops.{IsBounded}
+use Rattle.rs_query.proofs.BoundedFacts.{same-in}
 use Rattle.rs_filter.specs.Conditions.{conditions_of}
 use Rattle.rs_order.specs.Asks.{bar_after}
 use Rattle.rs_order.specs.Schedule.{JoinSide, Left, Right, SideAsk, is_of_side}
 use Rattle.rs_order.specs.Sorting.{sorted}
 use Rattle.rs_rank.specs.Keys.{key_cmp}
-use Rattle.rs_rank.specs.Masks.{mask_of}
+use Rattle.rs_rank.specs.Masks.{has_number, mask_of}
 use Rattle.rs_rank.specs.Weights.{evaluated}
 use Rattle.rs_rank.specs.declared.ids.Ids.{Ids}
 use Rattle.rs_rank.specs.declared.key.Key.{Key}
@@ -18,7 +20,7 @@ use Rattle.rs_expr.specs.Scoring.{Answering}
 use Rattle.rs_mu.specs.Stands.{state_after}
 use Rattle.rs_catalog.specs.Catalog.{CatalogDef}
 use Rattle.rs_scan.specs.Scans.{last_at}
-use Rattle.rs_query.specs.Answers.{rows_of, set_base}
+use Rattle.rs_query.specs.Answers.{rows_of, set_base, worth_of}
 use Rattle.rs_query.specs.Views.{all_rows}
 use Rattle.rs_query.specs.declared.block.Block.{Block}
 use Rattle.rs_query.specs.declared.query.Query.{Query}
@@ -327,6 +329,18 @@ module _ (catalogue more : CatalogDef) (answer : Answering) (query : Query) (cov
         stands-larger 2 right (part-of catalogue query 2 (tree_in right) parts.1) is.3,
       )
 
+-- what joins gives its rows no other worths
+bounded-larger : (catalogue more : CatalogDef) (query : Query) → Covers catalogue query → (answer : Answering) → IsBounded answer catalogue query → IsBounded answer (joined catalogue more) query
+bounded-larger catalogue more query covered answer bounded number rows term there has =
+    let block = block_in query number in
+    let own = block-covered catalogue query number covered in
+    let fewer : HasRows catalogue block term.entries rows =
+    subst (λ (size : ℕ → ℕ). (entry : ℕ) → 1 ≤ entry → entry ≤ length block.from → has_number term.entries entry ≡ true → (1 ≤ row_number rows entry) × (row_number rows entry ≤ size entry))
+    (size-same catalogue more block own) has in
+    let same : worth_of answer (joined catalogue more) block rows term ≡ worth_of answer catalogue block rows term =
+    same-in (worth_of answer (joined catalogue more) block rows) (worth_of answer catalogue block rows) block.terms term (worths-same catalogue more block own answer rows) there in
+    subst (λ worth. worth ≤ term.max) (sym same) (bounded number rows term there fewer)
+
 pub cursor-larger : (catalogue more : CatalogDef) (answer : Answering) (cursor : CursorState) → StandsFor catalogue answer cursor → StandsFor (joined catalogue more) answer cursor
 cursor-larger catalogue more answer cursor stands =
     let query = cursor.query in
@@ -338,6 +352,7 @@ cursor-larger catalogue more answer cursor stands =
       query = query-larger catalogue more query stands.query;
       plan = plan-larger catalogue more query tree stands.plan;
       indexes = indexes_of-larger catalogue more query 1 covered answer tree part stands.indexes;
+      bounded = bounded-larger catalogue more query covered answer stands.bounded;
       tables = λ number. subst (AllByRecursion (λ size. size ≤ 131072))
           (sym (tables-same catalogue more (block_in query number) (block-covered catalogue query number covered))) (stands.tables number);
       weights = stands.weights;

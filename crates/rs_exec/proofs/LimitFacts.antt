@@ -19,7 +19,7 @@ use Rattle.rs_exec.specs.Asking.{world_of}
 use Rattle.rs_exec.specs.Cursors.{CursorState, StandsFor, asks_of, plan_of}
 use Rattle.rs_exec.specs.Parts.{IsPartOf}
 use Rattle.rs_exec.proofs.BlockFacts.{block-formed, sizes-are}
-use Rattle.rs_exec.proofs.CursorFacts.{first-block}
+use Rattle.rs_exec.proofs.BlockFacts.{first-block}
 use Rattle.rs_exec.proofs.OperatorFacts.{IsHeldPart, child-held, child-most, child_on, number_on}
 use Rattle.rs_exec.proofs.PlacesFacts.{list-few-of, plan-part}
 use Rattle.rs_exec.proofs.ScanFacts.{index-drawn-most, table-drawn-most}

@@ -1,15 +1,15 @@
 -- The list of each node, whatever its kind, can be the input of an operator: its keys rise, and no two rows have the same ids.
-use Rattle.std.proofs.Common.{◌≡◌, ◌∙◌, ℕ, ◌≤◌, ◌&&◌, Bool, true, false, List, [], ◌∷◌, length, map, bit_or, refl, sym, ap, ap₂, subst, arith}
+use Rattle.std.proofs.Common.{◌≡◌, ◌∙◌, ℕ, ◌≤◌, ◌&&◌, ◌++◌, not, Bool, true, false, List, [], ◌∷◌, length, map, bit_or, refl, sym, ap, ap₂, subst, arith}
 use Rattle.std.proofs.lemmas.Bool.{eq-eqb}
 use Rattle.std.proofs.lemmas.List.{length-map}
 use Rattle.std.proofs.lemmas.Cmp.{nat_cmp_total, tied_itself}
 use Rattle.std.specs.Cmp.Lexicographic.{slice_cmp}
-use Rattle.std.specs.List.{AllByRecursion}
+use Rattle.std.specs.List.{AllByRecursion, filter}
 use Rattle.std.specs.Ordering.{nat_cmp, ordering_then}
 use Rattle.std.specs.declared.cmp.Ordering.TheVariants.{Equal, Less}
 use Rattle.rs_order.specs.Climbing.{Climbs, Differs, HasDistinctKeys, In, Precedes}
 use Rattle.rs_order.proofs.ClimbingFacts.{AllByRecursion-In, AllByRecursion-from_In}
-use Rattle.rs_order.proofs.EachFacts.{each-map}
+use Rattle.rs_order.proofs.EachFacts.{each-append, each-filter, each-map}
 use Rattle.rs_order.proofs.ItemFacts.{In-map-back}
 use Rattle.rs_order.proofs.SortingFacts.{Climbs-sorted, HasDistinctKeys-sorted, In-sorted-back}
 use Rattle.rs_rank.specs.Ids.{AreOtherIds}
@@ -22,7 +22,9 @@ use Rattle.rs_rank.specs.declared.key.Key.{Key}
 use Rattle.rs_rank.specs.declared.row.RankRow.{RankRow}
 use Rattle.rs_rank.proofs.OrderFacts.{IsTied-parts, key_cmp-total}
 use Rattle.rs_rank.proofs.SortedFacts.{ids_cmp-total}
-use Rattle.rs_query.specs.Answers.{base_of, distinct_if, answer_row, rows_of}
+use Rattle.rs_query.specs.Answers.{base_of, distinct_if, answer_row, occurs_in, rows_of, set_base}
+use Rattle.rs_value.specs.declared.set_op.SetOp.{SetOp}
+use Rattle.rs_value.specs.declared.set_op.SetOp.TheVariants.{UnionAll, Union, Intersect, Except}
 use Rattle.rs_query.specs.Choices.{IsChoice}
 use Rattle.rs_query.specs.Combinations.{combinations}
 use Rattle.rs_query.specs.Tables.{HasRows, all_entries, sizes_of}
@@ -222,6 +224,13 @@ module _ (w : World) (number : ℕ) (few : length (numbered_block w number).from
         rows = is.rows;
         side = ap₂ (λ (a b : Bool). a && b) (eq-eqb image.source.mask (entries tree) is.mask_is) is.choice;
       }))
+
+-- what holds of each row of both sides holds of what a set operator makes of them
+pub each-set : (P : Answer → Type 0) (op : SetOp) (lefts rights : List Answer) → AllByRecursion P lefts → AllByRecursion P rights → AllByRecursion P (set_base op lefts rights)
+each-set P UnionAll lefts rights l r = each-append P lefts rights l r
+each-set P Union lefts rights l r = each-firsts P (lefts ++ rights) (each-append P lefts rights l r)
+each-set P Intersect lefts rights l r = each-firsts P (filter (occurs_in rights) lefts) (each-filter P (occurs_in rights) lefts l)
+each-set P Except lefts rights l r = each-firsts P (filter (λ a. not (occurs_in rights a)) lefts) (each-filter P (λ a. not (occurs_in rights a)) lefts l)
 
 -- a list has as many rows as it is made of
 pub list-length : (w : World) (number : ℕ) (tree : PlanTree) → length (list_of w number tree) ≡ length (sources w number tree)

@@ -20,9 +20,11 @@ use Rattle.rs_ripple.specs.Stands.{schedule_of}
 use Rattle.rs_ripple.proofs.ScheduleFacts.{schedule_of-more}
 use Rattle.rs_exec.specs.Joining.{join_for}
 use Rattle.rs_exec.specs.OutputValues.{outputs_in}
+use Rattle.rs_exec.specs.Asked.{HasBlock, IsBoundedWorld}
 use Rattle.rs_exec.specs.Parts.{IsPartOf}
 use Rattle.rs_exec.specs.SetNodes.{operator_of, sides_for}
 use Rattle.rs_exec.proofs.DistinctStepFacts.{distinct-child_asks, distinct-grows}
+use Rattle.rs_exec.proofs.BlockFacts.{first-block}
 use Rattle.rs_exec.proofs.JoinListFacts.{CanJoinParts, join-sides}
 use Rattle.rs_exec.proofs.JoinStepFacts.{join-schedule}
 use Rattle.rs_exec.proofs.OperatorFacts.{puts_of, questions-are}
@@ -56,31 +58,31 @@ alone-goes_on before after first last le is_before is_after = record {
   split = is_after ∙ asks_from-split Left 1 first (last - first) last (omega arith) ∙ ap (λ (front : List SideAsk). front ++ asks_from Left (1 + first) (last - first)) (sym is_before);
 }
 
-pub asks-go_on : (w : World) (number : ℕ) (tree : PlanTree) (a : ℕ) → IsQuery w.catalogue w.query → IsView (sizes_in w number) (sizes_of w.catalogue (numbered_block w number))
+pub asks-go_on : (w : World) (number : ℕ) (tree : PlanTree) (a : ℕ) → IsQuery w.catalogue w.query → HasBlock w.query number → IsBoundedWorld w → IsView (sizes_in w number) (sizes_of w.catalogue (numbered_block w number))
     → IsPartOf w.catalogue w.query number tree → IsWeights (weights_in w) → GoesOn (child_asks w number tree a) (child_asks w number tree (suc a))
-asks-go_on w number (SeqScan entry) zero formed view part weights = record { more = []; split = refl }
-asks-go_on w number (SeqScan entry) (suc n) formed view part weights = record { more = []; split = refl }
-asks-go_on w number (RankScan entry term index) zero formed view part weights = record { more = []; split = refl }
-asks-go_on w number (RankScan entry term index) (suc n) formed view part weights = record { more = []; split = refl }
-asks-go_on w number (Rank term child) a formed view part weights =
+asks-go_on w number (SeqScan entry) zero formed has bounded view part weights = record { more = []; split = refl }
+asks-go_on w number (SeqScan entry) (suc n) formed has bounded view part weights = record { more = []; split = refl }
+asks-go_on w number (RankScan entry term index) zero formed has bounded view part weights = record { more = []; split = refl }
+asks-go_on w number (RankScan entry term index) (suc n) formed has bounded view part weights = record { more = []; split = refl }
+asks-go_on w number (Rank term child) a formed has bounded view part weights =
     alone-goes_on (child_asks w number (Rank term child) a) (child_asks w number (Rank term child) (suc a)) (asked_of w number (Rank term child) a Left) (asked_of w number (Rank term child) (suc a) Left)
-    (asks-more w number term child formed part weights a (suc a) (omega arith)) (rank-child_asks w number term child a) (rank-child_asks w number term child (suc a))
-asks-go_on w number (JoinOperator kind left right) a formed view part weights =
-    join-goes_on w number kind left right a (record { formed = formed; weights = weights; view = view; left_part = part.0; right_part = part.1; joined = part.2 })
-asks-go_on w number (Distinct child) a formed view part weights =
+    (asks-more w number term child formed part weights has bounded a (suc a) (omega arith)) (rank-child_asks w number term child a) (rank-child_asks w number term child (suc a))
+asks-go_on w number (JoinOperator kind left right) a formed has bounded view part weights =
+    join-goes_on w number kind left right a (record { formed = formed; bounded = bounded number has; weights = weights; view = view; left_part = part.0; right_part = part.1; joined = part.2 })
+asks-go_on w number (Distinct child) a formed has bounded view part weights =
     alone-goes_on (child_asks w number (Distinct child) a) (child_asks w number (Distinct child) (suc a)) (asked_of w number (Distinct child) a Left) (asked_of w number (Distinct child) (suc a) Left)
-    (distinct-grows w number child formed part weights a) (distinct-child_asks w number child a) (distinct-child_asks w number child (suc a))
-asks-go_on w number (SetOperator left right) a formed view part weights =
-    let facts = set-facts w.catalogue w.answer w.view w.query number left right formed weights part in
+    (distinct-grows w number child formed (bounded number has) part weights a) (distinct-child_asks w number child a) (distinct-child_asks w number child (suc a))
+asks-go_on w number (SetOperator left right) a formed has bounded view part weights =
+    let facts = set-facts w.catalogue w.answer w.view w.query number left right formed bounded weights part in
     let on = schedule_of-goes_on (sides_for w left) (operator_of w.query) (outputs_in w 1 left) (outputs_in w 2 right) facts.sides a in
     record { more = on.more; split = facts.asks (suc a) ∙ on.split ∙ ap (λ (front : List SideAsk). front ++ on.more) (sym (facts.asks a)) }
 
 -- so do their questions
-pub grows : (w : World) (number : ℕ) (tree : PlanTree) (a : ℕ) → IsQuery w.catalogue w.query → IsView (sizes_in w number) (sizes_of w.catalogue (numbered_block w number))
+pub grows : (w : World) (number : ℕ) (tree : PlanTree) (a : ℕ) → IsQuery w.catalogue w.query → HasBlock w.query number → IsBoundedWorld w → IsView (sizes_in w number) (sizes_of w.catalogue (numbered_block w number))
     → IsPartOf w.catalogue w.query number tree → IsWeights (weights_in w)
     → questions w number tree (suc a) ≡ questions w number tree a ++ questions_of_ask w number tree (suc a)
-grows w number tree a formed view part weights =
-    let on = asks-go_on w number tree a formed view part weights in
+grows w number tree a formed has bounded view part weights =
+    let on = asks-go_on w number tree a formed has bounded view part weights in
     let puts = puts_of w number tree in
     behind-front (questions w number tree a) (questions w number tree (suc a)) (flat_map puts on.more)
     (questions-are w number tree (suc a) ∙ ap (flat_map puts) on.split ∙ flat_map-append puts (child_asks w number tree a) on.more
@@ -93,9 +95,9 @@ numbers-next first (suc n) =
     let same : suc first + n ≡ first + suc n = omega arith in
     ap (λ (rest : List ℕ). first ∷ rest) (numbers-next (suc first) n) ∙ ap (λ k. numbers_from first (suc n) ++ k ∷ []) same
 
-pub parts-in-turn : (w : World) (tree : PlanTree) (n : ℕ) → IsQuery w.catalogue w.query → IsView (sizes_in w 1) (sizes_of w.catalogue (numbered_block w 1)) → IsWeights (weights_in w) → IsPlan w.catalogue w.query tree
+pub parts-in-turn : (w : World) (tree : PlanTree) (n : ℕ) → IsQuery w.catalogue w.query → IsBoundedWorld w → IsView (sizes_in w 1) (sizes_of w.catalogue (numbered_block w 1)) → IsWeights (weights_in w) → IsPlan w.catalogue w.query tree
     → flat_map (part_of_plan w tree) (numbers_from 1 n) ≡ calls_of_plan w tree n
-parts-in-turn w tree zero formed view weights plan = sym (ap (map (call_for w.catalogue)) (none tree)) where
+parts-in-turn w tree zero formed bounded view weights plan = sym (ap (map (call_for w.catalogue)) (none tree)) where
   none : (tree : PlanTree) → questions w 1 tree 0 ≡ []
   none (SeqScan entry) = refl
   none (RankScan entry term index) = refl
@@ -103,12 +105,12 @@ parts-in-turn w tree zero formed view weights plan = sym (ap (map (call_for w.ca
   none (JoinOperator kind left right) = refl
   none (Distinct child) = refl
   none (SetOperator left right) = refl
-parts-in-turn w tree (suc n) formed view weights plan =
+parts-in-turn w tree (suc n) formed bounded view weights plan =
     let call = call_for w.catalogue in
     let same : 1 + n ≡ suc n = omega arith in
     ap (flat_map (part_of_plan w tree)) (numbers-next 1 n)
     ∙ flat_map-append (part_of_plan w tree) (numbers_from 1 n) ((1 + n) ∷ [])
-    ∙ ap (λ (calls : List Call). calls ++ flat_map (part_of_plan w tree) ((1 + n) ∷ [])) (parts-in-turn w tree n formed view weights plan)
+    ∙ ap (λ (calls : List Call). calls ++ flat_map (part_of_plan w tree) ((1 + n) ∷ [])) (parts-in-turn w tree n formed bounded view weights plan)
     ∙ ap (λ (calls : List Call). calls_of_plan w tree n ++ calls) (append-nil (part_of_plan w tree (1 + n)) ∙ ap (part_of_plan w tree) same)
     ∙ sym (map-append call (questions w 1 tree n) (questions_of_ask w 1 tree (suc n)))
-    ∙ ap (map call) (sym (grows w 1 tree n formed view (plan-part w.catalogue w.query tree plan) weights))
+    ∙ ap (map call) (sym (grows w 1 tree n formed (first-block w.query) bounded view (plan-part w.catalogue w.query tree plan) weights))

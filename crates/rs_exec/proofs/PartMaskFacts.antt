@@ -53,7 +53,7 @@ wider-right : (block : Block) (place m n : ℕ) → HasTerm block place n → Ha
 wider-right block place m n has = record { term = has.term; there = has.there; inside = inside-right has.term.entries m n has.inside }
 
 -- a place in the mask of one term is that term's
-of-mask : (term place : ℕ) → bit_at (mask_of term) place ≡ 1 → place ≡ term - 1
+pub of-mask : (term place : ℕ) → bit_at (mask_of term) place ≡ 1 → place ≡ term - 1
 of-mask term place bit = elim (cases_lt place (term - 1)) [
   | inl below ↦ let none = bit_at-pow_other (term - 1) place (λ e. omega (arith, e, below)) in absurd (omega arith)
   | inr above ↦ elim (cases_lt (term - 1) place) [
@@ -63,7 +63,7 @@ of-mask term place bit = elim (cases_lt place (term - 1)) [
 ]
 
 -- a place in one of two masks
-in-either : (m n place : ℕ) → bit_at (bit_or m n) place ≡ 1 → (bit_at m place ≡ 1) ⊎ (bit_at n place ≡ 1)
+pub in-either : (m n place : ℕ) → bit_at (bit_or m n) place ≡ 1 → (bit_at m place ≡ 1) ⊎ (bit_at n place ≡ 1)
 in-either m n place bit =
     let both = bit_at_or m n place in
     let left = bit_at-lt m place in

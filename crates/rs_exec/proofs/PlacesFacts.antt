@@ -5,7 +5,7 @@ use Rattle.std.specs.List.{AllByRecursion, filter}
 use Rattle.std.specs.Prelude.{None, Some, not, slice_get}
 use Rattle.std.proofs.lemmas.Option.{slice_get_within}
 use Rattle.rs_order.proofs.ClimbingFacts.{AllByRecursion-In}
-use Rattle.rs_order.proofs.EachFacts.{each-append, each-filter, each-map, each-slice_get, each-weaker}
+use Rattle.rs_order.proofs.EachFacts.{each-map, each-slice_get, each-weaker}
 use Rattle.rs_order.proofs.ItemFacts.{In-map-back}
 use Rattle.rs_order.proofs.PartFacts.{In-slice_get}
 use Rattle.rs_order.proofs.SortingFacts.{In-sorted-back}
@@ -26,7 +26,6 @@ use Rattle.rs_query.specs.declared.query.Query.{Query}
 use Rattle.rs_query.specs.declared.query.Query.TheVariants.{One, Set}
 use Rattle.rs_query.specs.declared.term.Term.{Term}
 use Rattle.rs_query.proofs.EntryFacts.{items-inside, terms-inside}
-use Rattle.rs_query.proofs.RiseFacts.{each-firsts}
 use Rattle.rs_plan.specs.Lists.{World, key_under, list_of, numbered_block, row_under, sources}
 use Rattle.rs_query.specs.Blocks.{block_in}
 use Rattle.rs_plan.specs.Plans.{IsPart, IsPlan, IsRank, IsSetPlan}
@@ -37,7 +36,7 @@ use Rattle.rs_exec.specs.OutputValues.{CanPutOut}
 use Rattle.rs_exec.specs.Parts.{IsPartOf}
 use Rattle.rs_exec.proofs.BlockFacts.{block-formed, few-entries, same-counts, sizes-are, slice_get-none}
 use Rattle.rs_exec.proofs.FewFacts.{base-few, filter-less, length-firsts, sources-few}
-use Rattle.rs_exec.proofs.ListFacts.{IsOf, each-base, each-source, list-length, unsorted}
+use Rattle.rs_exec.proofs.ListFacts.{IsOf, each-base, each-set, each-source, list-length, unsorted}
 
 -- a part of a plan of a block is one of the query
 pub part-of : (catalogue : CatalogDef) (query : Query) (number : ℕ) (tree : PlanTree) → IsPart catalogue (block_in query number) tree → IsPartOf catalogue query number tree
@@ -70,13 +69,6 @@ plan-entries catalogue (Set op left right limit) tree plan = set-entries catalog
 pub record IsPlaced (w : World) (number mask : ℕ) (ids : Ids) : Type 0 where
   pub place : ((ids.block ≡ number) × (ids.mask ≡ mask)) ⊎ (ids.mask ≡ all_entries (numbered_block w ids.block))
   pub rows : HasRows w.catalogue (numbered_block w ids.block) ids.mask ids.rows
-
--- what holds of each row of both sides holds of what a set operator makes of them
-each-set : (P : Answer → Type 0) (op : SetOp) (lefts rights : List Answer) → AllByRecursion P lefts → AllByRecursion P rights → AllByRecursion P (set_base op lefts rights)
-each-set P UnionAll lefts rights l r = each-append P lefts rights l r
-each-set P Union lefts rights l r = each-firsts P (lefts ++ rights) (each-append P lefts rights l r)
-each-set P Intersect lefts rights l r = each-firsts P (filter (occurs_in rights) lefts) (each-filter P (occurs_in rights) lefts l)
-each-set P Except lefts rights l r = each-firsts P (filter (λ a. not (occurs_in rights a)) lefts) (each-filter P (λ a. not (occurs_in rights a)) lefts l)
 
 -- they are no more than both sides have
 length-set : (op : SetOp) (lefts rights : List Answer) → length (set_base op lefts rights) ≤ length lefts + length rights

@@ -1,12 +1,11 @@
 -- A rank operator over its input: its list is the answers of its core, and its asks are the core's.
-use Rattle.std.proofs.Common.{◌≡◌, ◌∙◌, ℕ, zero, suc, ◌+◌, ◌-◌, ◌≤◌, Bool, true, false, cond, eqb, List, [], ◌∷◌, ◌++◌, length, map, drop, get_or, bit_or, refl, sym, ap, arith}
+use Rattle.std.proofs.Common.{◌≡◌, ◌∙◌, ℕ, zero, suc, ◌+◌, ◌-◌, ◌≤◌, Bool, true, false, cond, eqb, List, [], ◌∷◌, ◌++◌, length, map, drop, bit_or, refl, sym, ap, arith}
 use Rattle.std.proofs.lemmas.List.{length-map}
 use Rattle.std.proofs.lemmas.Option.{slice_get_within}
-use Rattle.std.specs.List.{AllByRecursion, filter}
+use Rattle.std.specs.List.{filter}
 use Rattle.rs_order.specs.Asks.{asks_for, comes_before_bar, bar_after}
 use Rattle.rs_order.specs.Schedule.{JoinSide, Left, SideAsk, asks_from, is_of_side}
 use Rattle.rs_order.specs.Sorting.{sorted}
-use Rattle.rs_order.proofs.EachFacts.{each-weaker}
 use Rattle.rs_order.proofs.PartFacts.{sorted-map}
 use Rattle.rs_order.proofs.SortingFacts.{sorted-sorted}
 use Rattle.rs_rank.specs.Keys.{key_cmp}
@@ -30,11 +29,12 @@ use Rattle.rs_plan.specs.Counts.{asked_of}
 use Rattle.rs_plan.specs.Lists.{World, numbered_block, key_under, list_of, row_under, sources, weights_in, worths}
 use Rattle.rs_query.specs.Blocks.{block_in}
 use Rattle.rs_plan.specs.Trees.{Rank, PlanTree, terms}
+use Rattle.rs_exec.specs.Asked.{HasBlock, IsBoundedWorld}
 use Rattle.rs_exec.specs.Parts.{IsPartOf}
 use Rattle.rs_exec.specs.Standing.{evaluation_for}
 use Rattle.rs_exec.proofs.BlockFacts.{same-counts}
 use Rattle.rs_exec.proofs.ListFacts.{keys-of, list-climbs, list-others, unsorted, unsorted-others}
-use Rattle.rs_exec.proofs.SumFacts.{list-sums, worth-within}
+use Rattle.rs_exec.proofs.SumFacts.{list-sums, list-worths}
 
 -- all asks of the left side are asks of it
 pub left-asks : (first count : ℕ) → length (filter (is_of_side Left) (asks_from Left first count)) ≡ count
@@ -97,19 +97,15 @@ module _ (w : World) (number term : ℕ) (child : PlanTree) where
               ]
 
     -- the weights are those that a core holds
-    pub rank-input : IsInput (evaluation_for w term child) (list_of w number child)
-    rank-input = record {
+    pub rank-input : HasBlock w.query number → IsBoundedWorld w → IsInput (evaluation_for w term child) (list_of w number child)
+    rank-input has bounded = record {
       weights = weights;
       term = new-term;
       rising = list-climbs w number child;
-      sums = list-sums w number child formed;
-      limits = each-weaker (λ (row : RankRow). Unit {0}) (λ (row : RankRow). get_or (worths w row.ids) (term - 1) 0 ≤ get_or (weights_in w).max (term - 1) 0)
-          (λ row _. worth-within w row.ids (term - 1) formed) (list_of w number child) (each-unit (list_of w number child));
+      sums = list-sums w number child formed bounded has part.0;
+      limits = list-worths w number child formed bounded has part.0 term (record { term = part.1.term; there = part.1.is_term.there; inside = part.1.there });
       others = list-others w number child;
-    } where
-      each-unit : (rows : List RankRow) → AllByRecursion (λ (row : RankRow). Unit {0}) rows
-      each-unit [] = tt
-      each-unit (row ∷ rows) = (tt, each-unit rows)
+    }
 
     -- one more term adds weight times worth
     with-term : (ids : Ids) → with_worth e (row_under w (terms child) ids) ≡ row_under w (bit_or (terms child) (mask_of term)) ids
@@ -147,9 +143,9 @@ module _ (w : World) (number term : ℕ) (child : PlanTree) where
         ∙ ap (asks_for key_cmp (old_key e) (list_of w number child))
         (bar_after-map (new_key e) (list_of w number (Rank term child)) n ∙ ap (λ rows. bar_after (new_key e) rows n) rank-list)
 
-    pub asks-more : (a b : ℕ) → a ≤ b → asked_of w number (Rank term child) a Left ≤ asked_of w number (Rank term child) b Left
-    asks-more a b le =
+    pub asks-more : HasBlock w.query number → IsBoundedWorld w → (a b : ℕ) → a ≤ b → asked_of w number (Rank term child) a Left ≤ asked_of w number (Rank term child) b Left
+    asks-more has bounded a b le =
         let less = rank-asks a in
         let more = rank-asks b in
-        let grow = asks-grow e (list_of w number child) rank-input a b le in
+        let grow = asks-grow e (list_of w number child) (rank-input has bounded) a b le in
         omega arith

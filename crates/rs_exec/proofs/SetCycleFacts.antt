@@ -117,7 +117,7 @@ module _ {catalogue : CatalogDef} {query : Query} {left right : PlanTree} {a : â
   made = during.made
 
   facts : SetFacts w left right
-  facts = set-facts catalogue old.answer (all_rows catalogue query) query 1 left right can.formed can.weights can.part
+  facts = set-facts catalogue old.answer (all_rows catalogue query) query 1 left right can.formed can.bounded can.weights can.part
 
   -- as many rows as answers
   set-length : length (list_of w 1 tree) â‰¡ length (answers s (operator_of query) lefts rights)

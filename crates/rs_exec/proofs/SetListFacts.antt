@@ -30,13 +30,15 @@ use Rattle.rs_setop.specs.Sides.{AreBases, AreSides as AreSideRows, IsRowOf, ans
 use Rattle.rs_setop.proofs.BaseFacts.{answers-sorted, sides-sorted}
 use Rattle.rs_plan.specs.Lists.{World, key_under, numbered_block, row_under, sizes_in, sources, weights_in}
 use Rattle.rs_plan.specs.Plans.{IsComplete}
-use Rattle.rs_plan.specs.Trees.{SetOperator, PlanTree, terms}
+use Rattle.rs_plan.specs.Trees.{SetOperator, PlanTree, entries, terms}
 use Rattle.rs_exec.specs.OutputValues.{output_row, outputs_in}
 use Rattle.rs_exec.specs.SetNodes.{sides_for}
 use Rattle.rs_exec.proofs.AlikeFacts.{same-sums}
 use Rattle.rs_exec.proofs.DistinctListFacts.{Shows, map-filter, output-firsts, output_key, output_of, outputs-sorted, rows-show}
 use Rattle.rs_exec.proofs.SourceFacts.{sources-complete}
-use Rattle.rs_exec.proofs.SumFacts.{row-sum}
+use Rattle.rs_exec.specs.Asked.{IsBoundedWorld}
+use Rattle.rs_exec.proofs.PartMaskFacts.{terms-inside}
+use Rattle.rs_exec.proofs.SumFacts.{IsSeen, row-sum, seen-base}
 
 module _ (w : World) (mask : ℕ) where
   -- the rows of a block show their values
@@ -102,7 +104,7 @@ module _ (catalogue : CatalogDef) (answer : Answering) (view : View) (o : SetOp)
   abbrev rights : List Answer
   rights = base_of answer catalogue 2 right_block view.second
 
-  module _ (formed : IsQuery catalogue (Set o left_block right_block limit)) (weights : IsWeights (weights_in set_world)) (left_whole : IsComplete catalogue left_block left)
+  module _ (formed : IsQuery catalogue (Set o left_block right_block limit)) (bounded : IsBoundedWorld set_world) (weights : IsWeights (weights_in set_world)) (left_whole : IsComplete catalogue left_block left)
       (right_whole : IsComplete catalogue right_block right) (same : terms left ≡ terms right) where
     each-of : (number : ℕ) → AllByRecursion (λ (row : Answer). row.ids.block ≡ number) (base_of answer catalogue number (numbered_block set_world number) (sizes_in set_world number))
     each-of number = go (numbered_block set_world number).distinct where
@@ -118,11 +120,13 @@ module _ (catalogue : CatalogDef) (answer : Answering) (view : View) (o : SetOp)
       go false = rows-of (combinations catalogue (numbered_block set_world number) (sizes_in set_world number) (all_entries (numbered_block set_world number)))
 
     side-rows : (number : ℕ) (rows : List Answer) → AllByRecursion (λ (row : Answer). row.ids.block ≡ number) rows
+        → AllByRecursion (λ (row : Answer). IsSeen set_world 1 (entries left) row.ids) rows
         → AllByRecursion (IsRowOf (sides_for set_world left) number) (map (output_of set_world (terms left)) rows)
-    side-rows number rows each =
-        each-map (IsRowOf (sides_for set_world left) number) (output_of set_world mask) rows
-        (each-weaker (λ (row : Answer). row.ids.block ≡ number) (λ (row : Answer). IsRowOf (sides_for set_world left) number (output_of set_world mask row))
-        (λ row is. record { block = is; sum = row-sum set_world mask row.ids formed }) rows each)
+    side-rows number [] each seen = tt
+    side-rows number (row ∷ rows) each seen = (
+      record { block = each.0; sum = row-sum set_world 1 left row.ids formed (terms-inside catalogue left_block left left_whole.part) seen.0 },
+      side-rows number rows each.1 seen.1,
+    )
 
     image-of : (z : OutputRow) → In z (map (output_of set_world (terms left)) lefts ++ map (output_of set_world (terms left)) rights) → (row : Answer) × (z ≡ output_of set_world (terms left) row)
     image-of z h = elim (In-append z (map (output_of set_world mask) lefts) (map (output_of set_world mask) rights) h) [
@@ -134,8 +138,8 @@ module _ (catalogue : CatalogDef) (answer : Answering) (view : View) (o : SetOp)
     bases = record {
       limits = weights;
       blocks = omega arith;
-      left_rows = side-rows 1 lefts (each-of 1);
-      right_rows = side-rows 2 rights (each-of 2);
+      left_rows = side-rows 1 lefts (each-of 1) (seen-base set_world 1 1 (entries left) (bounded 1 (inl refl)));
+      right_rows = side-rows 2 rights (each-of 2) (seen-base set_world 2 1 (entries left) (bounded 2 (inr refl)));
       left_rising = outputs-rise set_world mask lefts (Rise-base answer catalogue 1 left_block view.first);
       right_rising = outputs-rise set_world mask rights (Rise-base answer catalogue 2 right_block view.second);
       alike = λ x y h k values.

@@ -15,6 +15,7 @@ use Rattle.rs_plan.specs.Lists.{World, list_of, weights_in}
 use Rattle.rs_query.specs.Blocks.{block_in}
 use Rattle.rs_plan.specs.Plans.{IsPlan, IsSetPlan}
 use Rattle.rs_plan.specs.Trees.{Rank, SetOperator, PlanTree, terms}
+use Rattle.rs_exec.specs.Asked.{IsBoundedWorld}
 use Rattle.rs_exec.specs.Asking.{world_of}
 use Rattle.rs_exec.specs.Nodes.{asked_in, tree_in}
 use Rattle.rs_exec.specs.OutputValues.{outputs_in}
@@ -55,7 +56,7 @@ query-asked catalogue (Set op left right limit) tree n is = set-unasked catalogu
 
 -- and they stand
 module _ (catalogue : CatalogDef) (answer : Answering) (op : SetOp) (left_block right_block : Block) (limit : Option ℕ) (formed : IsQuery catalogue (Set op left_block right_block limit))
-    (weights : IsWeights (weights_of left_block)) where
+    (bounded : IsBoundedWorld (world_of catalogue answer (Set op left_block right_block limit))) (weights : IsWeights (weights_of left_block)) where
   abbrev query : Query
   query = Set op left_block right_block limit
 
@@ -75,7 +76,7 @@ module _ (catalogue : CatalogDef) (answer : Answering) (op : SetOp) (left_block 
   set-stands (SetOperator left right) (node.Set' head p l q r) plan is =
       let on_left = start-tree catalogue left_block 1 left l is.1 in
       let on_right = start-tree catalogue right_block 2 right r is.2 in
-      let facts = set-facts catalogue answer w.view query 1 left right formed weights (refl, plan.0, plan.1, plan.2) in (
+      let facts = set-facts catalogue answer w.view query 1 left right formed bounded weights (refl, plan.0, plan.1, plan.2) in (
         refl,
         subst (λ (h : SetNode). SetStands w h (tree_in l) (tree_in r) (asked_in l) (asked_in r)) (sym is.0)
             (subst (λ t. SetStands w (record { core = new_core op (weights_in w) (terms left); tally = no_tally }) t (tree_in r) (asked_in l) (asked_in r)) (sym on_left)
@@ -91,9 +92,9 @@ module _ (catalogue : CatalogDef) (answer : Answering) (op : SetOp) (left_block 
       )
   set-stands tree n plan is = absurd is
 
-pub query-stands : (catalogue : CatalogDef) (answer : Answering) (query : Query) (tree : PlanTree) (n : PlanNode) → IsQuery catalogue query → IsWeights (weights_of (block_in query 1))
-    → IsPlan catalogue query tree → IsQueryStart catalogue query tree n
+pub query-stands : (catalogue : CatalogDef) (answer : Answering) (query : Query) (tree : PlanTree) (n : PlanNode) → IsQuery catalogue query
+    → IsBoundedWorld (world_of catalogue answer query) → IsWeights (weights_of (block_in query 1)) → IsPlan catalogue query tree → IsQueryStart catalogue query tree n
     → Stands (world_of catalogue answer query) 1 n
-query-stands catalogue answer (One block limit) tree n formed weights plan is =
+query-stands catalogue answer (One block limit) tree n formed bounded weights plan is =
     start-stands (world_of catalogue answer (One block limit)) 1 (few-entries catalogue (One block limit) 1 formed) (sizes-are catalogue answer (One block limit) 1 refl) refl tree n plan.0.part is
-query-stands catalogue answer (Set op left right limit) tree n formed weights plan is = set-stands catalogue answer op left right limit formed weights tree n plan.0 is
+query-stands catalogue answer (Set op left right limit) tree n formed bounded weights plan is = set-stands catalogue answer op left right limit formed bounded weights tree n plan.0 is

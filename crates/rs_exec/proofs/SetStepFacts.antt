@@ -24,6 +24,7 @@ use Rattle.rs_exec.specs.Parts.{AreSides}
 use Rattle.rs_exec.specs.SetNodes.{operator_of, sides_for}
 use Rattle.rs_exec.specs.Sides.{of_side}
 use Rattle.rs_exec.proofs.RankFacts.{bar_after-map}
+use Rattle.rs_exec.specs.Asked.{IsBoundedWorld}
 use Rattle.rs_exec.proofs.SetListFacts.{set-list, set-sides}
 use Rattle.rs_exec.proofs.SideFacts.{on-both}
 
@@ -43,15 +44,16 @@ pub record SetFacts (w : World) (left right : PlanTree) : Type 0 where
 abbrev pub seen : CatalogDef → Answering → View → Query → World
 seen catalogue answer view query = record { catalogue = catalogue; answer = answer; query = query; view = view }
 
-pub set-facts : (catalogue : CatalogDef) (answer : Answering) (view : View) (query : Query) (number : ℕ) (left right : PlanTree) → IsQuery catalogue query → IsWeights (weights_in (seen catalogue answer view query))
+pub set-facts : (catalogue : CatalogDef) (answer : Answering) (view : View) (query : Query) (number : ℕ) (left right : PlanTree) → IsQuery catalogue query → IsBoundedWorld (seen catalogue answer view query)
+    → IsWeights (weights_in (seen catalogue answer view query))
     → AreSides catalogue query number left right → SetFacts (seen catalogue answer view query) left right
-set-facts catalogue answer view (One block limit) number left right formed weights parts = absurd parts
-set-facts catalogue answer view (Set o l r limit) number left right formed weights parts =
+set-facts catalogue answer view (One block limit) number left right formed bounded weights parts = absurd parts
+set-facts catalogue answer view (Set o l r limit) number left right formed bounded weights parts =
     let w = seen catalogue answer view (Set o l r limit) in
     let s = sides_for w left in
-    let list = set-list catalogue answer view o l r limit left right formed weights parts.1 parts.2 parts.3 in
+    let list = set-list catalogue answer view o l r limit left right formed bounded weights parts.1 parts.2 parts.3 in
     record {
-      sides = set-sides catalogue answer view o l r limit left right formed weights parts.1 parts.2 parts.3;
+      sides = set-sides catalogue answer view o l r limit left right formed bounded weights parts.1 parts.2 parts.3;
       list = list;
       asks = asks list;
       all = on-both (λ side. entries (of_side left right side) ≡ all_entries (block_in (Set o l r limit) (of_side 1 2 side))) parts.1.all parts.2.all;

@@ -112,7 +112,7 @@ during-start catalogue query number tree a old can =
     let w = world_of catalogue old.answer query in
     let view = subst (λ (sizes : List ℕ). IsView sizes (sizes_of catalogue (block_in query number))) (sym (sizes-are catalogue old.answer query number can.number_is))
     (IsView-itself (sizes_of catalogue (block_in query number))) in
-    let on = asks-go_on w number tree a can.formed view can.part can.weights in
+    let on = asks-go_on w number tree a can.formed can.number_is can.bounded view can.part can.weights in
     record {
       more = [];
       rest = on.more;
@@ -282,6 +282,7 @@ module _ {catalogue : CatalogDef} {query : Query} {number : ℕ} {tree : PlanTre
           number_is = held.number_is;
           part = held.part;
           indexes = held.indexes;
+          bounded = can.bounded;
           weights = can.weights;
           more = omega arith;
           tables = can.tables;

@@ -1,15 +1,20 @@
 -- What one ask of a node of a plan did.
-use Rattle.std.specs.Prelude.{ℕ, suc, ◌≡◌, ◌⊎◌, ◌≤◌, ◌^◌, length, Option, Result, IsOk}
+use Rattle.std.specs.Prelude.{ℕ, suc, ◌≡◌, ◌⊎◌, ◌≤◌, ◌^◌, true, List, length, Option, Result, IsOk}
 use Rattle.std.specs.List.{AllByRecursion}
 use Rattle.rs_expr.specs.InOrder.{Inquires}
 use Rattle.rs_expr.specs.Scoring.{ScorerState}
 use Rattle.rs_rank.specs.declared.row.RankRow.{RankRow}
 use Rattle.rs_rank.specs.Weights.{IsWeights}
+use Rattle.rs_order.specs.Climbing.{In}
+use Rattle.rs_query.specs.Answers.{worth_of}
+use Rattle.rs_query.specs.Combinations.{combinations}
+use Rattle.rs_query.specs.Meaning.{is_inside}
+use Rattle.rs_query.specs.declared.term.Term.{Term}
 use Rattle.rs_query.specs.Tables.{sizes_of}
 use Rattle.rs_query.specs.WellFormed.{IsQuery}
 use Rattle.rs_query.specs.declared.query.Query.{Query}
 use Rattle.rs_query.specs.declared.query.Query.TheVariants.{One, Set}
-use Rattle.rs_plan.specs.Lists.{World, list_of, numbered_block, weights_in}
+use Rattle.rs_plan.specs.Lists.{World, list_of, numbered_block, sizes_in, weights_in}
 use Rattle.rs_plan.specs.Trees.{Distinct, JoinOperator, Rank, SetOperator, PlanTree}
 use Rattle.rs_exec.specs.declared.distinct.DistinctNode.{DistinctNode}
 use Rattle.rs_exec.specs.declared.fault.ExecFault.{ExecFault}
@@ -32,13 +37,25 @@ abbrev pub HasBlock : Query → ℕ → Type 0
 HasBlock (One block limit) number = number ≡ 1
 HasBlock (Set op left right limit) number = (number ≡ 1) ⊎ (number ≡ 2)
 
+-- no term of the block of this number is worth more than its maximum, for the combinations that a world sees
+abbrev pub HasBoundedWorths : World → ℕ → Type 0
+HasBoundedWorths w number =
+    (mask : ℕ) (rows : List ℕ) (term : Term) → In rows (combinations w.catalogue (numbered_block w number) (sizes_in w number) mask) → In term (numbered_block w number).terms
+    → is_inside term.entries mask ≡ true → worth_of w.answer w.catalogue (numbered_block w number) rows term ≤ term.max
+
+-- nor is one of the query
+abbrev pub IsBoundedWorld : World → Type 0
+IsBoundedWorld w = (number : ℕ) → HasBlock w.query number → HasBoundedWorths w number
+
 -- a part of a plan of a block can be asked once more: the query and the part are those of the catalogue, its indexes hold the
--- answers, the weights are within their limits, no ask found its end, and no table, and so no list, has more rows than it may have
+-- answers, no worth passes the maximum of its term, the weights are within their limits, no ask found its end, and no table, and so
+-- no list, has more rows than it may have
 pub record CanAsk (w : World) (number : ℕ) (tree : PlanTree) (asked : ℕ) : Type 0 where
   pub formed : IsQuery w.catalogue w.query
   pub number_is : HasBlock w.query number
   pub part : IsPartOf w.catalogue w.query number tree
   pub indexes : PlanIndexesHold w.answer w.catalogue tree
+  pub bounded : IsBoundedWorld w
   pub weights : IsWeights (weights_in w)
   pub more : asked ≤ length (list_of w number tree)
   pub tables : (n : ℕ) → AllByRecursion (λ size. size ≤ 131072) (sizes_of w.catalogue (numbered_block w n))

@@ -11,6 +11,7 @@ use Rattle.rs_query.specs.Answers.{limit_of, weights_of}
 use Rattle.rs_query.specs.Meaning.{outputs_of}
 use Rattle.rs_query.specs.Questions.{asking}
 use Rattle.rs_query.specs.Tables.{sizes_of}
+use Rattle.rs_query.specs.Tops.{IsBounded}
 use Rattle.rs_query.specs.WellFormed.{AreSameTerms, IsQuery}
 use Rattle.rs_query.specs.declared.query.Query.{Query}
 use Rattle.rs_query.specs.declared.query.Query.TheVariants.{One, Set}
@@ -93,12 +94,14 @@ pub record IsNew (query : Query) (tree : PlanTree) (cursor : CursorState) : Type
   pub sound : cursor.failed ≡ false
 
 -- a cursor stands for a catalogue and a scorer of these answers: its query and its plan are those of the catalogue, the indexes of
--- its plan hold the answers, its tables and weights are within their limits, and all that it keeps is what this many asks give
+-- its plan hold the answers, no term is worth more than its maximum, its tables and weights are within their limits, and all that it
+-- keeps is what this many asks give
 pub record StandsFor (catalogue : CatalogDef) (answer : Answering) (cursor : CursorState) : Type 0 where
   pub sound : cursor.failed ≡ false
   pub query : IsQuery catalogue cursor.query
   pub plan : IsPlan catalogue cursor.query (plan_of cursor)
   pub indexes : PlanIndexesHold answer catalogue (plan_of cursor)
+  pub bounded : IsBounded answer catalogue cursor.query
   pub tables : (number : ℕ) → AllByRecursion (λ size. size ≤ 131072) (sizes_of catalogue (block_in cursor.query number))
   pub weights : IsWeights (weights_of (block_in cursor.query 1))
   pub nodes : Stands (world_of catalogue answer cursor.query) 1 cursor.root

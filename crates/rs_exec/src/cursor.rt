@@ -6,6 +6,7 @@ ghost use Rattle.rs_plan.specs.Counts.{AreWithinLimits, counts_of_plan};
 ghost use Rattle.rs_plan.specs.Lists.{World};
 ghost use Rattle.rs_plan.specs.Plans.{IsPlan};
 ghost use Rattle.rs_plan.specs.Shapes.{tree_of};
+ghost use Rattle.rs_query.specs.Tops.{IsBounded};
 ghost use Rattle.rs_query.specs.WellFormed.{IsQuery};
 ghost use Rattle.rs_exec.specs.Asking.{world_of};
 ghost use Rattle.rs_exec.specs.Cursors.{CanGo, IsNew, IsOver, StandsFor, asks_after, asks_of, call_of, is_limit, is_over, next_of, plan_of};
@@ -59,7 +60,8 @@ impl Cursor {
         requires query { IsQuery catalog.now query }
         requires plan { IsPlan catalog.now query (tree_of plan.now) }
         ensures new { IfOk result (IsNew query (tree_of plan.now)) }
-        ensures stands { (answer : Answering) → PlanIndexesHold answer catalog.now (tree_of plan.now) → IfOk result (StandsFor catalog.now answer) }
+        ensures stands { (answer : Answering) → PlanIndexesHold answer catalog.now (tree_of plan.now) → IsBounded answer catalog.now query
+            → IfOk result (StandsFor catalog.now answer) }
     {
         limits_hold(catalog, &query);
         match PlanNode::of_plan(alloc, catalog, &query, plan) {

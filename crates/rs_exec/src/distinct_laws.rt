@@ -8,12 +8,14 @@ ghost use Rattle.rs_plan.specs.Plans.{IsPart};
 ghost use Rattle.rs_plan.specs.Trees.{Distinct, PlanTree};
 ghost use Rattle.rs_query.specs.WellFormed.{IsQuery};
 ghost use Rattle.rs_rank.specs.Weights.{IsWeights};
+ghost use Rattle.rs_exec.specs.Asked.{HasBoundedWorths};
 ghost use Rattle.rs_exec.specs.OutputValues.{outputs_in};
 
 /// The list of an operator that drops duplicates has the rows of its input's list, but of each list of output values the first
 /// row alone, in the same order.
 pub fn distinct_gives_the_first_rows()
-    ensures { (w : World) (number : ℕ) (child : PlanTree) → IsQuery w.catalogue w.query → IsWeights (weights_in w)
+    ensures { (w : World) (number : ℕ) (child : PlanTree) → IsQuery w.catalogue w.query → HasBoundedWorths w number
+        → IsWeights (weights_in w)
         → IsPart w.catalogue (numbered_block w number) (Distinct child)
         → outputs_in w number (Distinct child) ≡ firsts (outputs_in w number child) }
 {}

@@ -25,6 +25,7 @@ ghost use Rattle.rs_filter.specs.Matching.{IsView};
 ghost use Rattle.rs_plan.specs.Lists.{World, list_of_plan, numbered_block, sizes_in, weights_in};
 ghost use Rattle.rs_plan.specs.Plans.{IsPlan};
 ghost use Rattle.rs_plan.specs.Trees.{PlanTree};
+ghost use Rattle.rs_exec.specs.Asked.{IsBoundedWorld};
 ghost use Rattle.rs_exec.specs.Covering.{Covers};
 ghost use Rattle.rs_exec.specs.Cursors.{CursorState, HasFewTerms, SameAsks, StandsFor, answers_of};
 ghost use Rattle.rs_exec.specs.Asking.{world_of};
@@ -49,7 +50,7 @@ pub fn plans_give_the_same_rows()
 /// The calls of the first asks, one ask after another, are those that come with this many asks: no call is made ahead, and none
 /// twice.
 pub fn rows_give_the_parts_in_turn()
-    ensures { (w : World) (tree : PlanTree) (n : ℕ) → IsQuery w.catalogue w.query
+    ensures { (w : World) (tree : PlanTree) (n : ℕ) → IsQuery w.catalogue w.query → IsBoundedWorld w
         → IsView (sizes_in w 1) (sizes_of w.catalogue (numbered_block w 1)) → IsWeights (weights_in w)
         → IsPlan w.catalogue w.query tree
         → flat_map (part_of_plan w tree) (numbers_from 1 n) ≡ calls_of_plan w tree n }

@@ -12,13 +12,14 @@ ghost use Rattle.rs_query.specs.WellFormed.{IsQuery};
 ghost use Rattle.rs_rank.specs.Keys.{key_cmp};
 ghost use Rattle.rs_rank.specs.Weights.{IsWeights};
 ghost use Rattle.rs_setop.specs.Sides.{answers, schedule_of};
+ghost use Rattle.rs_exec.specs.Asked.{IsBoundedWorld};
 ghost use Rattle.rs_exec.specs.OutputValues.{outputs_in};
 ghost use Rattle.rs_exec.specs.Parts.{IsPartOf};
 ghost use Rattle.rs_exec.specs.SetNodes.{operator_of, right_asks, sides_for};
 
 /// The list of a set operator has the rows that the operator makes of the lists of its sides, in the order of their keys.
 pub fn set_operators_give_the_rows_of_both_sides()
-    ensures { (w : World) (left right : PlanTree) → IsQuery w.catalogue w.query → IsWeights (weights_in w)
+    ensures { (w : World) (left right : PlanTree) → IsQuery w.catalogue w.query → IsBoundedWorld w → IsWeights (weights_in w)
         → IsPartOf w.catalogue w.query 1 (SetOperator left right)
         → outputs_in w 1 (SetOperator left right)
         ≡ answers (sides_for w left) (operator_of w.query) (outputs_in w 1 left) (outputs_in w 2 right) }
@@ -28,7 +29,7 @@ pub fn set_operators_give_the_rows_of_both_sides()
 /// rows of it before the next answer, and the right side of a union too; that of INTERSECT and EXCEPT for a left row that is drawn
 /// up to the first row whose bound is less.
 pub fn set_operators_ask_their_sides()
-    ensures order { (w : World) (left right : PlanTree) (n : ℕ) → IsQuery w.catalogue w.query → IsWeights (weights_in w)
+    ensures order { (w : World) (left right : PlanTree) (n : ℕ) → IsQuery w.catalogue w.query → IsBoundedWorld w → IsWeights (weights_in w)
         → IsPartOf w.catalogue w.query 1 (SetOperator left right)
         → child_asks w 1 (SetOperator left right) n
         ≡ schedule_of (sides_for w left) (operator_of w.query) (outputs_in w 1 left) (outputs_in w 2 right) n }

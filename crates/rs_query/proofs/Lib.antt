@@ -2,6 +2,7 @@ pub mod AddsFacts
 pub mod ArgFacts
 pub mod AskFacts
 pub mod BlockFacts
+pub mod BoundedFacts
 pub mod CellFacts
 pub mod ChoiceFacts
 pub mod EntryFacts
@@ -30,8 +31,10 @@ pub mod StepsFacts
 pub mod ThroughFacts
 pub mod TieFacts
 pub mod ToldFacts
+pub mod TopFacts
 pub mod WalkFacts
 pub mod WeightFacts
 pub mod WithinFacts
 pub mod WorkedCombinations
 pub mod WorkedGrowth
+pub mod WorkedTops

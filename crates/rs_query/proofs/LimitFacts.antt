@@ -1,5 +1,5 @@
 -- Where the tables and the predicates of a catalogue are within their limits, so are the tables, the weights and the maxima of a query.
-use Rattle.std.proofs.Common.{◌≡◌, ℕ, zero, suc, ◌-◌, ◌≤◌, List, [], ◌∷◌, length, map, Option, None, Some, refl, ap, subst, sym, arith}
+use Rattle.std.proofs.Common.{◌≡◌, ℕ, zero, suc, ◌-◌, ◌≤◌, List, [], ◌∷◌, length, map, Option, None, Some, refl, ap, arith}
 use Rattle.std.specs.List.{AllByRecursion}
 use Rattle.std.specs.Prelude.{option_and_then, option_map, slice_get, unwrap_or}
 use Rattle.rs_order.proofs.EachFacts.{each-map, each-slice_get, each-weaker}
@@ -45,12 +45,13 @@ module _ (catalogue : CatalogDef) (rows : AllByRecursion (λ (t : NamedTable). l
   pub sizes-few : (block : Block) → AllByRecursion (λ size. size ≤ 131072) (sizes_of catalogue block)
   sizes-few block = (size-few block 1, (size-few block 2, (size-few block 3, (size-few block 4, (size-few block 5, (size-few block 6, tt))))))
 
--- a term's maximum is that of its predicate
+-- a term's maximum is at most that of its predicate
 max-low : (catalogue : CatalogDef) (block : Block) → AllByRecursion (λ (p : PredicateDef). p.max ≤ greatest_max) catalogue.predicates
     → (term : Term) → IsTerm catalogue block term → term.max ≤ greatest_max
 max-low catalogue block scores term is =
-    subst (λ n. n ≤ greatest_max) (sym is.max)
-    (each-slice_get (λ (p : PredicateDef). p.max ≤ greatest_max) catalogue.predicates term.predicate is.predicate scores is.has_predicate)
+    let own = is.max in
+    let low = each-slice_get (λ (p : PredicateDef). p.max ≤ greatest_max) catalogue.predicates term.predicate is.predicate scores is.has_predicate in
+    omega arith
 
 pub weights-few : (catalogue : CatalogDef) (block : Block) → AllByRecursion (λ (p : PredicateDef). p.max ≤ greatest_max) catalogue.predicates
     → IsBlock catalogue block → IsWeights (weights_of block)

@@ -45,7 +45,7 @@ entries_mask-has column (first ∷ columns) h =
     ]
 
 -- an entry inside a mask
-inside-has : (entries mask entry : ℕ) → is_inside entries mask ≡ true → bit_at entries (entry - 1) ≡ 1 → has_number mask entry ≡ true
+pub inside-has : (entries mask entry : ℕ) → is_inside entries mask ≡ true → bit_at entries (entry - 1) ≡ 1 → has_number mask entry ≡ true
 inside-has entries mask entry inside has =
     let same : bit_and entries mask ≡ entries = eqb-true (bit_and entries mask) entries inside in
     let both = bit_at_and entries mask (entry - 1) in

@@ -13,5 +13,6 @@ pub mod Questions
 pub mod Searching
 pub mod Stored
 pub mod Tables
+pub mod Tops
 pub mod Views
 pub mod WellFormed

@@ -113,7 +113,7 @@ pub record IsTerm (catalogue : CatalogDef) (block : Block) (term : Term) : Type 
   pub entries : term.entries ≡ entries_mask (argument_columns term.args)
   pub some_weight : 1 ≤ term.weight
   pub most_weight : term.weight ≤ 1000000
-  pub max : term.max ≡ predicate.max
+  pub max : term.max ≤ predicate.max
 
 -- a FROM entry is a table of the catalogue
 abbrev pub IsFromEntry : CatalogDef → ℕ × List ℕ → Type 0

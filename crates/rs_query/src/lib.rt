@@ -23,6 +23,7 @@ mod sizes;
 mod step;
 mod steps;
 mod term;
+mod top_laws;
 mod weights;
 
 pub use ask::AskFault;
@@ -42,3 +43,4 @@ pub use masks::is_inside;
 pub use query::{Query, block_in, limit_of};
 pub use sizes::{size_of, sizes_of};
 pub use term::Term;
+pub use top_laws::worths_are_within_tops;

@@ -1,5 +1,5 @@
 -- Each query that is bound has few terms, and its least plan is a plan of it: without its conditions it is well formed, and its plans need none of them.
-use Rattle.std.proofs.Common.{ℕ, ◌≡◌, List, [], ◌∷◌, refl, sym, ap, subst}
+use Rattle.std.proofs.Common.{ℕ, ◌≡◌, ◌∙◌, List, [], ◌∷◌, refl, sym, ap, subst}
 use Rattle.std.specs.Prelude.{Option, Some, None, option_map, Result, Ok, Err, if◌then◌else◌}
 use Rattle.rs_value.specs.Results.{◌>>=◌}
 use Rattle.rs_value.specs.declared.set_op.SetOp.{SetOp}
@@ -17,10 +17,12 @@ use Rattle.rs_typing.specs.declared.fault.BindFault.TheVariants.{At}
 use Rattle.rs_typing.specs.declared.fault.Why.TheVariants.{SetColumnsDiffer}
 use Rattle.rs_bind.specs.Conditions.{filter_of}
 use Rattle.rs_bind.specs.Narrow.{HaveNarrowConjuncts}
-use Rattle.rs_bind.specs.Queries.{Unranked, agree, block_columns, bound_limit, bound_query, first_item, needed_by, one_of, output_columns, output_names, set_of, terms_of, unranked_of, with_terms}
+use Rattle.rs_bind.specs.Queries.{Unranked, agree, block_columns, bound_limit, bound_query, typed_query, first_item, needed_by, one_of, output_columns, output_names, set_of, terms_of, unranked_of, with_terms}
 use Rattle.rs_bind.specs.Sources.{Found, entries_of, items_of, sources_of}
-use Rattle.rs_bind.proofs.FormedFacts.{formed}
+use Rattle.rs_bind.proofs.FormedFacts.{bound-formed}
 use Rattle.rs_typing.proofs.ResultFacts.{same_Ok, well}
+use Rattle.rs_typing.proofs.StepFacts.{Ok-steps}
+use Rattle.rs_query.specs.Tops.{with_tops}
 use Rattle.rs_plan.specs.Plans.{IsComplete, IsPart, IsPlan, IsRank, IsSetPlan}
 use Rattle.rs_plan.specs.Trees.{Distinct, Hash, JoinOperator, Nested, Rank, RankScan, SeqScan, SetOperator, PlanTree}
 use Rattle.rs_sample.specs.Cards.{BlockCards}
@@ -108,13 +110,25 @@ module _ (catalogue : CatalogDef) where
       unfiltered (λ limit. well-alike unfiltered (made left right terms others limit))))))
       bound is
 
-  -- a query that is bound is bound without WHERE too, to the same without conditions
+  -- a query that is typed is typed without WHERE too, as the same without conditions
+  typed-alike : (query : syntax.Query) (typed : Query) → typed_query catalogue query ≡ Ok typed → typed_query catalogue (without_filters query) ≡ Ok (unfiltered typed)
+  typed-alike query typed is = go query.right is where
+    go : (right : Option (SetOp × syntax.Block)) → typed_query catalogue (record query { right = right }) ≡ Ok typed
+        → typed_query catalogue (without_filters (record query { right = right })) ≡ Ok (unfiltered typed)
+    go None is = one-alike (record query { right = None }) typed is
+    go (Some right) is = set-alike (record query { right = Some right }) right.0 right.1 typed is
+
+  -- its tops are the same
+  bare-tops : (typed : Query) → with_tops catalogue (unfiltered typed) ≡ unfiltered (with_tops catalogue typed)
+  bare-tops (One block limit) = refl
+  bare-tops (Set op left right limit) = refl
+
+  -- so it is bound without WHERE too
   bound-alike : (query : syntax.Query) (bound : Query) → bound_query catalogue query ≡ Ok bound → bound_query catalogue (without_filters query) ≡ Ok (unfiltered bound)
-  bound-alike query bound is = go query.right is where
-    go : (right : Option (SetOp × syntax.Block)) → bound_query catalogue (record query { right = right }) ≡ Ok bound
-        → bound_query catalogue (without_filters (record query { right = right })) ≡ Ok (unfiltered bound)
-    go None is = one-alike (record query { right = None }) bound is
-    go (Some right) is = set-alike (record query { right = Some right }) right.0 right.1 bound is
+  bound-alike query bound is =
+      let step = Ok-steps (typed_query catalogue query) (λ typed. well (with_tops catalogue typed)) bound is in
+      ap (λ r. r >>= λ typed. well (with_tops catalogue typed)) (typed-alike query step.0 step.1)
+      ∙ ap (λ q. well q) (bare-tops step.0 ∙ ap unfiltered (same_Ok (with_tops catalogue step.0) bound step.2))
 
   narrow : (bound : Query) → HaveNarrowConjuncts (unfiltered bound)
   narrow (One block limit) = tt
@@ -128,7 +142,7 @@ module _ (catalogue : CatalogDef) where
 
   -- so without its conditions it is well formed
   pub unfiltered-formed : (query : syntax.Query) (bound : Query) → IsWrittenQuery query → bound_query catalogue query ≡ Ok bound → IsQuery catalogue (unfiltered bound)
-  unfiltered-formed query bound written is = formed catalogue (without_filters query) (unfiltered bound) (written-alike query written) (narrow bound) (bound-alike query bound is)
+  unfiltered-formed query bound written is = bound-formed catalogue (without_filters query) (unfiltered bound) (written-alike query written) (narrow bound) (bound-alike query bound is)
 
   -- plans without conditions are plans with them: no node needs a condition but a hash join
   bare-rank : (block : Block) (term : ℕ) (child : PlanTree) → IsRank (bare block) term child → IsRank block term child

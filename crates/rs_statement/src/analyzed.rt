@@ -5,6 +5,7 @@ ghost use Rattle.rs_syntax.specs.Syntax.{query_of};
 ghost use Rattle.rs_syntax.specs.Written.{IsWrittenQuery};
 ghost use Rattle.rs_expr.specs.Scoring.{Answering};
 ghost use Rattle.rs_catalog.specs.Catalog.{CatalogDef};
+ghost use Rattle.rs_query.specs.Tops.{HasTops};
 ghost use Rattle.rs_query.specs.WellFormed.{IsQuery};
 ghost use Rattle.rs_bind.specs.Queries.{bound_query};
 ghost use Rattle.rs_plan.specs.Counts.{counts_of_plan};
@@ -34,7 +35,7 @@ use rs_events::{Host, put_text};
 use rs_exec::Cursor;
 use rs_expr::Scorer;
 use rs_plan::{Counts, Plan};
-use rs_query::Query;
+use rs_query::{Query, worths_are_within_tops};
 use rs_sample::Cards;
 use rs_syntax::Select;
 use rs_value::Memory;
@@ -89,6 +90,7 @@ fn asked_text<S: Scorer>(
     scorer: &mut S,
 ) -> Result<Vec<u8>, Fault>
     requires query { IsQuery catalog.now query }
+    requires tops { HasTops catalog.now query }
     requires cards { AreCards query (cards_of cards.now) }
     requires plan { IsPlan catalog.now query (tree_of plan.now) }
     requires held { IndexesHold (S.state scorer.old).answer catalog.now }
@@ -98,6 +100,7 @@ fn asked_text<S: Scorer>(
         (Some (counts_of_plan (world_of catalog.now (S.state scorer.old).answer query) (tree_of plan.now)
         (asks_in_all (world_of catalog.now (S.state scorer.old).answer query) (tree_of plan.now))))) }
 {
+    worths_are_within_tops();
     let mut cursor = Cursor::start(alloc, &Snapshot::current(catalog), query, plan)?;
     let told = told_text(alloc, catalog, &mut cursor, cards, plan, scorer);
     drop(cursor);

@@ -2,6 +2,7 @@
 
 ghost use Rattle.std.specs.Prelude.{◌≡◌, ◌⊎◌, IfOk, List};
 ghost use Rattle.rs_expr.specs.Scoring.{Answering};
+ghost use Rattle.rs_query.specs.Tops.{HasTops};
 ghost use Rattle.rs_query.specs.WellFormed.{IsQuery};
 ghost use Rattle.rs_plan.specs.Plans.{IsPlan};
 ghost use Rattle.rs_plan.specs.Shapes.{tree_of};
@@ -28,7 +29,7 @@ use rs_enum::{
 use rs_exec::Cursor;
 use rs_expr::{FormulaScorer, Scorer};
 use rs_plan::Plan;
-use rs_query::Query;
+use rs_query::{Query, worths_are_within_tops};
 use rs_sample::{Cards, SampleFault};
 use rs_value::Memory;
 use std::alloc::Global;
@@ -134,6 +135,7 @@ pub fn start_planned<S: Scorer>(
     scorer: &mut S,
 ) -> Result<Cursor, Fault>
     requires formed { IsQuery catalog.now query }
+    requires tops { HasTops catalog.now query }
     requires held { IndexesHold (S.state scorer.old).answer catalog.now }
     ensures calls { (beside : Environment) → Stepped (λ step. step ≡ sample_step catalog.now sampling query) catalog.now (without_value result)
         (record beside { scorer = S.state scorer.old }) (record beside { scorer = S.state scorer.new }) }
@@ -157,6 +159,7 @@ pub fn start_planned<S: Scorer>(
             return Err(Fault::Memory);
         }
     };
+    worths_are_within_tops();
     let started = Cursor::start(alloc, &Snapshot::current(catalog), query, &plan);
     drop(plan);
     Ok(started?)

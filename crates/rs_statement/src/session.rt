@@ -11,6 +11,7 @@ ghost use Rattle.rs_catalog.specs.Catalog.{CatalogDef, has_name};
 ghost use Rattle.rs_exec.specs.Cursors.{StandsFor};
 ghost use Rattle.rs_catalog.specs.IndexesHold.{IndexesHold};
 ghost use Rattle.rs_catalog.specs.Snapshot.{HaveRows, snapshot};
+ghost use Rattle.rs_query.specs.Tops.{HasTops};
 ghost use Rattle.rs_query.specs.WellFormed.{IsQuery};
 ghost use Rattle.rs_statement.specs.declared.evaluating.Evaluating.TheVariants.{Plainly, Planned};
 ghost use Rattle.rs_statement.specs.Lines.{rank_lines};
@@ -179,6 +180,7 @@ fn declared_query(
     requires written { IsWrittenQuery (query_of select.now) }
     ensures gives { Gives Fault.Memory (declared_query (state_of catalog.now (held_in session.now)) name.now (query_of select.now)) result }
     ensures formed { IfOk result (IsQuery catalog.now) }
+    ensures tops { IfOk result (HasTops catalog.now) }
     ensures free { IfOk result (λ _. has_name name.now.text (keys session.now.cursors) ≡ false) }
 {
     let query = bind(alloc, catalog, select)?;

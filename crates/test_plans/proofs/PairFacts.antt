@@ -40,7 +40,7 @@ is_term catalogue block has column number = record {
   entries = refl;
   some_weight = omega arith;
   most_weight = omega arith;
-  max = refl;
+  max = omega arith;
 }
 
 pub IsBlock-pair : (catalogue : CatalogDef) (block : Block) → length catalogue.tables ≡ 1 → HasPredicate catalogue → IsPair block

@@ -36,7 +36,7 @@ is_term catalogue block has column number = record {
   entries = refl;
   some_weight = omega arith;
   most_weight = omega arith;
-  max = refl;
+  max = omega arith;
 }
 
 pub IsBlock-join : (catalogue : CatalogDef) (block : Block) → length catalogue.tables ≡ 2 → HasPredicate (kind.Int ∷ kind.Int ∷ []) 100 catalogue → IsJoin block

@@ -3,6 +3,7 @@ use Rattle.std.proofs.Common.{rules, subst, sym}
 use Rattle.rs_catalog.specs.Catalog.{CatalogDef}
 use Rattle.rs_catalog.specs.IndexesHold.{IndexesHold}
 use Rattle.rs_expr.specs.MemScorer.{answered_score}
+use Rattle.rs_query.specs.Tops.{IsBounded}
 use Rattle.rs_query.specs.WellFormed.{IsQuery}
 use Rattle.rs_plan.specs.Plans.{IsPlan}
 use Rattle.rs_plan.specs.Shapes.{tree_of}
@@ -21,4 +22,6 @@ pub tell_cursor-told-requires-clause-goes : goal.tell_cursor-told-requires-claus
 tell_cursor-told-requires-clause-goes c =
     let answer = answered_score c.args.scorer.now in
     let held = subst (λ (seen : CatalogDef). IndexesHold answer seen) (sym c.current-seen.ensures) c.requires.held in
-    λ sound. c.in_ok-cursor.ensures.stands answer (held-plan answer c.current-seen.result held (tree_of c.args.plan.now))
+    let bounded = subst (λ (seen : CatalogDef). IsBounded answer seen c.args.query) (sym c.current-seen.ensures)
+    (c.worths_are_within_tops.ensures.worths answer c.args.catalog.now c.args.query c.requires.held c.requires.tops) in
+    λ sound. c.in_ok-cursor.ensures.stands answer (held-plan answer c.current-seen.result held (tree_of c.args.plan.now)) bounded

@@ -3,4 +3,4 @@ use Rattle.rs_exec.proofs.DistinctListFacts.{distinct-outputs}
 use Rattle.rs_exec.proofs.distinct_laws.distinct_gives_the_first_rows.Goals as goal
 
 pub returns : goal.returns
-returns c = λ w number child formed weights part. distinct-outputs w number child formed part weights
+returns c = λ w number child formed bounded weights part. distinct-outputs w number child formed bounded part weights

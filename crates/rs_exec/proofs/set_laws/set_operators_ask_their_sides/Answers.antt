@@ -3,8 +3,8 @@ use Rattle.rs_exec.proofs.SetStepFacts.{set-facts}
 use Rattle.rs_exec.proofs.set_laws.set_operators_ask_their_sides.Goals as goal
 
 pub returns-clause-order : goal.returns-clause-order
-returns-clause-order c = λ w left right n formed weights part.
-    (set-facts w.catalogue w.answer w.view w.query 1 left right formed weights part).asks n
+returns-clause-order c = λ w left right n formed bounded weights part.
+    (set-facts w.catalogue w.answer w.view w.query 1 left right formed bounded weights part).asks n
 
 pub returns-clause-left : goal.returns-clause-left
 returns-clause-left c = λ w left right n part. left-asks w.catalogue w.answer w.view left right n w.query part

@@ -63,6 +63,7 @@ asked_text-told-requires g c =
     let old = g.W.Host.state c.args.host.now in
     let sampled = rw c.scorer.ensures.value at c.in-Ok.ensures.calls old in record {
       query = c.in_ok-query.ensures.formed;
+      tops = c.in_ok-query.ensures.tops;
       cards = c.in-Ok.ensures.own;
       plan = c.in-Ok-choose_plan.ensures.plan;
       held = rw (c.scorer-2.ensures.value, g.met.W.Host.after_scorer, sampled.ran.keeps.scorer.answer) c.requires.held;

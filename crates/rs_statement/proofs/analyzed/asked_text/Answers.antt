@@ -34,7 +34,8 @@ pub told_text-told-requires : goal.told_text-told-requires
 told_text-told-requires g c =
     let answer = (g.S.Scorer.state c.args.scorer.now).answer in
     let new = c.in_ok-cursor.ensures.new in record {
-      stands = rw c.current.ensures at c.in_ok-cursor.ensures.stands answer (held-plan answer c.args.catalog.now c.requires.held (tree_of c.args.plan.now));
+      stands = rw c.current.ensures at c.in_ok-cursor.ensures.stands answer (held-plan answer c.args.catalog.now c.requires.held (tree_of c.args.plan.now))
+          (c.worths_are_within_tops.ensures.worths answer c.args.catalog.now c.args.query c.requires.held c.requires.tops);
       cards = subst (λ q. AreCards q (cards_of c.args.cards.now)) (sym new.query_is) c.requires.cards;
       plan = sym new.plan_is;
     }

@@ -23,7 +23,7 @@ returns-in_err-query g c =
     old (Gives-unbound _ _ _ c.in_err-query.ensures.gives refl))
 
 pub start_planned-requires : goal.start_planned-requires
-start_planned-requires g c = record { formed = c.in_ok-query.ensures.formed; held = rw c.scorer.ensures.value c.requires.held }
+start_planned-requires g c = record { formed = c.in_ok-query.ensures.formed; tops = c.in_ok-query.ensures.tops; held = rw c.scorer.ensures.value c.requires.held }
 
 pub returns-in_err-cursor : goal.returns-in_err-cursor
 returns-in_err-cursor g c =

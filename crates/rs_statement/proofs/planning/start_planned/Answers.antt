@@ -55,5 +55,6 @@ returns g c =
         plan_is = started.plan_is ∙ c.in-Ok-chosen.ensures.tree (cards_for answer c.args.catalog.now c.args.sampling c.args.query) c.in-Ok.ensures.cards;
         asks_are = started.unasked;
       };
-      stands = rw c.current.ensures at c.in_ok-started.ensures.stands answer (held-plan answer c.args.catalog.now c.requires.held (tree_of c.in-Ok-chosen.plan));
+      stands = rw c.current.ensures at c.in_ok-started.ensures.stands answer (held-plan answer c.args.catalog.now c.requires.held (tree_of c.in-Ok-chosen.plan))
+          (c.worths_are_within_tops.ensures.worths answer c.args.catalog.now c.args.query c.requires.held c.requires.tops);
     }

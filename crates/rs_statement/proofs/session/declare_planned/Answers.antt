@@ -31,7 +31,7 @@ returns-in_err-query g c =
     })
 
 pub start_planned-requires : goal.start_planned-requires
-start_planned-requires g c = record { formed = c.in_ok-query.ensures.formed; held = c.requires.held }
+start_planned-requires g c = record { formed = c.in_ok-query.ensures.formed; tops = c.in_ok-query.ensures.tops; held = c.requires.held }
 
 pub returns-in_err-cursor : goal.returns-in_err-cursor
 returns-in_err-cursor g c =

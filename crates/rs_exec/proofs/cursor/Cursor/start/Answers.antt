@@ -13,5 +13,5 @@ returns-in-Ok-clause-new c = record {
 }
 
 pub returns-in-Ok-clause-stands : goal.returns-in-Ok-clause-stands
-returns-in-Ok-clause-stands c = λ answer holds.
-    cursor-start c.args.catalog.now answer c.args.query (tree_of c.args.plan.now) c.in-Ok.root c.requires.query c.requires.plan c.limits_hold.ensures.rows c.limits_hold.ensures.weights holds c.in-Ok.ensures
+returns-in-Ok-clause-stands c = λ answer holds bounded.
+    cursor-start c.args.catalog.now answer c.args.query (tree_of c.args.plan.now) c.in-Ok.root c.requires.query c.requires.plan c.limits_hold.ensures.rows c.limits_hold.ensures.weights holds bounded c.in-Ok.ensures

@@ -1,8 +1,8 @@
--- What was bound is well formed.
+-- What was typed is well formed.
 use Rattle.std.proofs.Common.{rules}
 use Rattle.rs_syntax.specs.Syntax.{query_of}
 use Rattle.rs_bind.proofs.FormedFacts.{IfOk-formed}
-use Rattle.rs_bind.proofs.query.bind.Goals as goal
+use Rattle.rs_bind.proofs.query.bind_typed.Goals as goal
 
 pub returns-in-None-clause-formed : goal.returns-in-None-clause-formed
 returns-in-None-clause-formed c =
