@@ -5,6 +5,7 @@
 # Before that it counts the allocations of runs over a table of 1,000 rows that print more or fewer rows, or call the scorer
 # more or less often: a printed row takes its values alone, and a call with numbers none. A row that a condition on texts is
 # tested on takes none either.
+# The word `feed` joins two feeds of five rows.
 # A join by a hash and a union are executed by the program cases_plans, whichever plan `run` would choose. That program
 # tells its input line by line, and names the line at which there is no memory, if it had begun with one.
 # A test of the program test_units_tests puts rows into a table, which has to stay as it was where one can't join. One of
@@ -241,6 +242,10 @@ CREATE RANK INDEX px ON t (p(x));
 SELECT x FROM t ORDER BY p(x) + q(y, 'a') LIMIT 2;
 SQL
 printf '1,17,8\n2,13,10\n' >asked.wanted
+# The two feeds whose join docs/FORMATS.md shows.
+printf 'key,score\na,9\nb,8\na,7\nc,5\nb,1\n' >fl.csv
+printf 'key,score\nb,9\na,6\nc,6\na,2\nd,1\n' >fr.csv
+printf '1,17,b,8,9\n2,15,a,9,6\n3,13,a,7,6\n4,11,a,9,2\n5,11,c,5,6\n6,10,b,1,9\n7,9,a,7,2\nleft=6 right=6\n' >feed.wanted
 printf '3\n9\n1\n10\n' >answers
 printf 'q,3,a,3\nq,9,a,9\nq,1,a,1\nq,10,a,10\n' >kept
 : >nothing
@@ -252,6 +257,7 @@ run() {
     local words=("$program" plain "$1.sql") input=/dev/null
     case $1 in
         plan | first | tables | forms | nested | cursors | grows | rows | index | calls) words=("$program" run "$1.sql" 1) ;;
+        feed) words=("$program" feed fl.csv fr.csv 9) ;;
         hashed | united) words=("$cases") input=$1.sql ;;
         asked) words=("$ask" q scores /dev/null answers run asked.sql 1) ;;
     esac
@@ -436,7 +442,7 @@ compare calls '' 'level(rating)' 10 'level(rating) + recent(year)' 10
 compare_conditions tested_plainly plain
 compare_conditions tested_by_plans run 1
 
-names=(join union ready grown plan first tables forms nested cursors grows)
+names=(join union ready grown plan first tables forms nested cursors grows feed)
 if [ $# -gt 0 ]; then
     names=("$@")
 elif [ -x "$cases" ]; then

@@ -1,7 +1,7 @@
 #!/usr/bin/env python3
-"""Works out what the words `top`, `run`, `plain`, `gen` and `ta` and the lines `guess` do in the cases of the program cases_runs whose files it can read, from the definitions.
+"""Works out what the words `top`, `run`, `plain`, `gen`, `ta` and `feed` and the lines `guess` do in the cases of the program cases_runs whose files it can read, from the definitions.
 
-Queries, their plans and their calls are those of queries.py, and threshold scans those of threshold.py. The cases that it can't read stay as they are: those in which a
+Queries, their plans and their calls are those of queries.py, threshold scans those of threshold.py, and what joins of feeds give and draw is that of feeds.py. The cases that it can't read stay as they are: those in which a
 name, a type or a file of a script is refused, and words of no form. Of refused scripts it reads those that pass a limit or
 aren't UTF-8, and those whose INSERT is refused. This makes the cases anew, at the top of the repository:
 
@@ -24,10 +24,12 @@ With the word `ta` and a script it prints what that word does in the current fol
 
 import csv
 import io
+import itertools
 import os
 import re
 import sys
 
+import feeds
 from generated import generated
 from queries import Block, Ended, Unread, Words, either, listed, read_query, total, value
 from threshold import Scan, by_score, key
@@ -376,6 +378,44 @@ class Run:
         for rank, row in enumerate(best, 1):
             self.write(line_of([rank, row[chosen], *row]))
 
+    def feed(self, left, right, wanted):
+        """Puts the first pairs of two feeds, and how often both are drawn."""
+        names = [left, right]
+        sides = [self.feed_rows(name) for name in names]
+        given, (side, row, before, got), draws = feeds.joined(sides)
+        if wanted <= len(given):
+            side, draws = 0, given[wanted - 1][2:] if wanted else (0, 0)
+        for rank, (i, j, *_) in enumerate(given[:wanted], 1):
+            text, left_score = sides[0][i - 1]
+            right_score = sides[1][j - 1][1]
+            self.write(line_of([rank, left_score + right_score, text, left_score, right_score]))
+        if side:
+            raise Ended("Table", f"table: {names[side - 1]}: OutOfOrder row {row} before {before} got {got}")
+        self.write("left=%d right=%d\n" % tuple(draws))
+
+    def feed_rows(self, name):
+        """The rows of a file that is a feed."""
+        try:
+            header, *rows = records(self.fetch(name, MOST_OF_A_FILE))
+        except ValueError:
+            raise Ended("Table", f"table: {name}: NoHeader") from None
+        differs = [place for place, pair in enumerate(itertools.zip_longest(["key", "score"], header), 1) if pair[0] != pair[1]]
+        if differs:
+            raise Ended("Table", f"table: {name}: HeaderDiffers column {differs[0]}")
+        for number, row in enumerate(rows, 1):
+            if number > MOST_ROWS:
+                raise Ended("Table", f"table: {name}: TooManyRows")
+            if len(row) != 2:
+                raise Ended("Table", f"table: {name}: FieldCount row {number} found {len(row)}")
+            self.want_utf8(name, row[0], number, 1)
+            if not re.fullmatch("[-+]?[0-9]+", row[1]) or abs(int(row[1])) > MOST_NUMBER:
+                raise Ended("Table", f"table: {name}: NotInt row {number} column 2")
+        scores = [int(score) for _, score in rows]
+        for number, score in enumerate(scores, 1):
+            if not 0 <= score <= feeds.MOST:
+                self.bad("score", [number], score, feeds.MOST)
+        return [(text, score) for (text, _), score in zip(rows, scores)]
+
     def want_utf8(self, name, field, row, column):
         try:
             bytes_of(field).decode()
@@ -552,9 +592,9 @@ READ = "ta NotEligible statement|NotUtf8|lex NumberTooWide|lex TooManyTokens|par
 
 def can_be_read(words, old, files):
     """Whether a run of these words can be read, which ended so. Of scripts that are refused, only those can that pass a limit or whose INSERT is."""
-    if not re.fullmatch(r"top \S+ \S+ \d+ \d+|(plain|ta) \S+|(run|guess) \S+ \d+|gen \d+ \d+", words) or "  Usage" in old:
+    if not re.fullmatch(r"top \S+ \S+ \d+ \d+|(plain|ta) \S+|(run|guess) \S+ \d+|gen \d+ \d+|feed \S+ \S+ \d+", words) or "  Usage" in old:
         return False
-    if words.startswith("top ") or not set(old) & {"  Script", "  Table"}:
+    if words.startswith(("top ", "feed ")) or not set(old) & {"  Script", "  Table"}:
         return True
     return any(re.match(f"  err script: ({READ}) ", line) or is_of_insert(line, files[words.split()[1]]) for line in old)
 
@@ -574,6 +614,9 @@ def told(words, files, scores, fails):
     if word == "ta":
         run = Scans(files, scores, fails)
         return run.told(run.script, rest[0])
+    if word == "feed":
+        run = Run(files, scores, fails, None)
+        return run.told(run.feed, rest[0], rest[1], int(rest[2]))
     run = Run(files, scores, fails, int(rest[1]) if word in ("run", "guess") else None, word == "guess")
     if word == "top":
         return run.told(run.top, rest[0], rest[1], int(rest[2]), int(rest[3]))

@@ -133,6 +133,8 @@ def examples():
         ".SS gen", "Tables of one row, made from the number 0", *example(["$ ranksql gen 0 1", *blocks(generated)[-1]]),
         ".SS ta", "The best film and the ten best; examples/films/threshold.sql makes the table and its two indexes",
         *example(["$ ranksql ta examples/films/threshold.sql", *scanned]),
+        ".SS feed", "The five best districts for a dinner and a bed, at the top of the repository",
+        *example(["$ ranksql feed examples/feeds/restaurants.csv examples/feeds/hotels.csv 5", *read("examples/feeds/best.out").splitlines()]),
     ]
 
 
@@ -154,6 +156,7 @@ def page():
         "\\fBrun\\fR chooses a plan by a sample, prints each row before it looks for the next one, and calls predicates only as far as the",
         "order of the rows needs. Both print the same rows in the same order.",
         "\\fBta\\fR answers queries over one table by threshold scans of its rank indexes, and says how many accesses each scan made.",
+        "\\fBfeed\\fR joins two files that are ranked already, and draws no row of either that its pairs don't need.",
         ".SH WORDS",
         *entries(meanings),
         ".SH STATEMENTS",

@@ -41,7 +41,9 @@ use Rattle.rs_run.specs.Running.{IsFormRun, IsRun, IsRunOf, OfForm}
 use Rattle.rs_run.specs.Threshold.{DoesByScan, DoesNext, ScanState, ScansRun, counted_step, first_statement, scanned_step}
 use Rattle.rs_run.specs.Told.{told_step}
 use Rattle.rs_run.specs.Top.{top_lines}
-use Rattle.rs_run.specs.Words.{Form, RunGenerated, RunScript, Threshold, Top, form_of}
+use Rattle.rs_words.proofs.RunFacts.{some-feed_run}
+use Rattle.rs_run.specs.FeedTold.{word_fault}
+use Rattle.rs_run.specs.Words.{Feed, Form, RunGenerated, RunScript, Threshold, Top, form_of}
 use Rattle.rs_run.specs.declared.fault.RunFault.{RunFault}
 use Rattle.rs_run.specs.declared.fault.RunFault.TheVariants.{NotEligible, Statement, Usage}
 use Rattle.rs_run.specs.declared.fault.ScriptWord.TheVariants.{Ta}
@@ -186,6 +188,7 @@ each_form finds has answer (Threshold name) =
     let there = has name in
     let run = script-has_run Statement (ScansRun finds answer) (each_scans finds has answer) finds name there.0 there.1 in
     (run.0, run.2)
+each_form finds has answer (Feed words) = let run = some-feed_run finds has words in (with_fault (word_fault words.left words.right) run.0, (run.0, run.1, refl))
 
 pub words-have_run : (finds : Finds) → HasFiles finds → (answer : Answering) (words : List (List ℕ)) → (run : WordsRun) × IsRun finds answer words run
 words-have_run finds has answer words = go (form_of words)

@@ -1,5 +1,6 @@
 pub mod Worked
 pub mod WorkedScans
+pub mod FeedFacts
 pub mod EachFacts
 pub mod RunFacts
 pub mod ScanFacts

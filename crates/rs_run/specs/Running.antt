@@ -9,13 +9,17 @@ use Rattle.rs_statement.specs.declared.sampling.Sampling.TheVariants.{ByScores}
 use Rattle.rs_syntax.specs.Syntax.{Command}
 use Rattle.rs_run.specs.Faults.{WordsRun}
 use Rattle.rs_run.specs.declared.fault.RunFault.TheVariants.{Statement, Usage}
-use Rattle.rs_run.specs.Words.{Form, RunGenerated, RunScript, Threshold, Top, form_of}
+use Rattle.rs_words.specs.declared.fault.WordFault.{WordFault}
+use Rattle.rs_words.specs.Feeding.{IsFeedRun}
+use Rattle.rs_run.specs.FeedTold.{word_fault}
+use Rattle.rs_run.specs.Words.{Feed, Form, RunGenerated, RunScript, Threshold, Top, form_of}
 use Rattle.rs_run.specs.Top.{top_lines}
 use Rattle.rs_run.specs.Plain.{HasStatements, ScriptRuns, as_it_is, source_of}
 use Rattle.rs_run.specs.Threshold.{ScansRun}
 use Rattle.rs_expr.specs.Scoring.{Answering}
 use Rattle.rs_events.specs.Events.{Finds}
 use Rattle.rs_statement.specs.Steps.{Run}
+use Rattle.rs_events.specs.Run as events
 use Rattle.rs_events.specs.Run.{fails, fetch_then, with_fault}
 use Rattle.rs_statement.specs.Session.{StatementsRun}
 use Rattle.rs_statement.specs.Statements.{IsNoExplain}
@@ -39,6 +43,7 @@ IsRunOf finds answer _ run = ⊥
 -- the run of a form: one with faults of its own, or one whose faults are those of statements
 abbrev pub IsFormRun : Finds → Answering → Form → WordsRun → Type 0
 IsFormRun finds answer (Threshold name) run = ScriptRuns Statement finds (ScansRun finds answer) name run
+IsFormRun finds answer (Feed words) run = (own : events.Run WordFault) × IsFeedRun finds words own × (run ≡ with_fault (word_fault words.left words.right) own)
 IsFormRun finds answer form run = (own : Run) × IsRunOf finds answer form own × (run ≡ with_fault Statement own)
 
 -- the run of words of this form; where they are of none, it ends at once

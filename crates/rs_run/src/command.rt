@@ -10,6 +10,7 @@ ghost use Rattle.rs_run.specs.Running.{IsFormRun, IsRun};
 ghost use Rattle.rs_run.specs.Words.{RunGenerated, RunScript, form_of};
 
 use crate::fault::RunFault;
+use crate::feed::feed;
 use crate::generated::run_generated;
 use crate::plain::run_script;
 use crate::readers::Readers;
@@ -156,5 +157,6 @@ fn obey<F: Files, S: Scorer, O: Sink>(
         CommandLine::Threshold(script) => {
             run_by_scan(alloc, script, &mut Readers::new(), files, scorer, out)
         }
+        CommandLine::Feed(words) => feed(alloc, words.left, words.right, words.count, files, out),
     }
 }

@@ -6,12 +6,12 @@ use crate::status::Status;
 use rs_events::HaltFault;
 use rs_outside::SinkFault;
 use rs_statement::Fault;
-use rs_value::Memory;
+use rs_value::{Memory, Text};
 use std::alloc::Global;
 
 /// The line of words that are of no form. It grows with the words, so it stands above all that one word does.
 const USAGE: &str =
-    "usage: ranksql top FILE COLUMN MAX K, run SCRIPT SEED, plain SCRIPT, gen NUMBER ROWS, ta SCRIPT\n";
+    "usage: ranksql top FILE COLUMN MAX K, run SCRIPT SEED, plain SCRIPT, gen NUMBER ROWS, ta SCRIPT, feed LEFT RIGHT K\n";
 
 /// A word of the command line whose scripts may have some statements alone.
 #[derive(Clone, Copy, Debug, PartialEq, Eq)]
@@ -35,7 +35,17 @@ pub enum RunFault {
     /// The words of the command line are of no form.
     Usage,
     /// The statement of this number, counted from 1, is none that the word takes.
-    NotEligible { word: ScriptWord, statement: usize },
+    NotEligible {
+        word: ScriptWord,
+        statement: usize,
+    },
+    /// In the feed of this name a row's score, `got`, is greater than that of the row before it. Rows are counted from 1.
+    Order {
+        name: Text,
+        row: u32,
+        before: u32,
+        got: u32,
+    },
     /// A fault of `top` or of a script.
     Statement(Fault),
 }
@@ -82,6 +92,7 @@ impl RunFault {
         match self {
             RunFault::Usage => Status::Usage,
             RunFault::NotEligible { .. } => Status::Script,
+            RunFault::Order { .. } => Status::Table,
             RunFault::Statement(why) => statement_status(why),
         }
     }
@@ -96,9 +107,23 @@ impl RunFault {
                 let word = word.name();
                 Ok(format!(in alloc; "script: {word} NotEligible statement {statement}\n")?)
             }
+            RunFault::Order {
+                name,
+                row,
+                before,
+                got,
+            } => order_line(alloc, name, *row, *before, *got),
             RunFault::Statement(why) => why.line(alloc),
         }
     }
+}
+
+/// The line of a feed with a row out of order.
+fn order_line(alloc: Global, name: &Text, row: u32, before: u32, got: u32) -> Result<String, Memory>
+    ensures { IfOk result (λ line. string_bytes line ≡ run_fault_line (RunFault.Order name.now row before got)) }
+{
+    let name = name.as_str();
+    Ok(format!(in alloc; "table: {name}: OutOfOrder row {row} before {before} got {got}\n")?)
 }
 
 /// The status of a run that ends with this fault of `top` or of a script.

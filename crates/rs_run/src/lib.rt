@@ -6,6 +6,7 @@
 
 mod command;
 mod fault;
+mod feed;
 mod generated;
 mod known_script;
 mod laws;

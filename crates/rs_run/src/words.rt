@@ -1,5 +1,5 @@
 ghost use Rattle.std.specs.Prelude.{◌≡◌, option_map};
-ghost use Rattle.rs_run.specs.Words.{form_of, gen_form, number_word, plain_form, run_form, ta_form, top_form};
+ghost use Rattle.rs_run.specs.Words.{feed_form, form_of, gen_form, number_word, plain_form, run_form, ta_form, top_form};
 ghost use Rattle.rs_run.specs.Parts.CommandLine.{form_of_command_line};
 
 use rs_statement::{Evaluating, Sampling};
@@ -8,7 +8,7 @@ use rs_value::{Text, decimal_of};
 /// The greatest MAX of `top`.
 const MOST_SCORE: u64 = 4_294_967_295;
 
-/// The greatest K of `top`.
+/// The greatest K of `top` and `feed`.
 const MOST_PRINTED: u64 = 1_000_000;
 
 /// The greatest NUMBER of `gen`.
@@ -26,6 +26,14 @@ pub struct TopCommand<'a> {
     pub count: u32,
 }
 
+/// What `feed LEFT RIGHT K` asks for.
+#[derive(Clone, Copy)]
+pub struct FeedCommand<'a> {
+    pub left: &'a Text,
+    pub right: &'a Text,
+    pub count: u32,
+}
+
 /// What the words of a command line ask for.
 #[derive(Clone, Copy)]
 pub enum CommandLine<'a> {
@@ -36,6 +44,7 @@ pub enum CommandLine<'a> {
     RunGenerated(u32, u32),
     /// The statements of the script of this name, with its queries answered by threshold scans.
     Threshold(&'a Text),
+    Feed(FeedCommand<'a>),
 }
 
 /// What the words of a command line ask for, without the program's name, where they are of a form. The forms are tried in order.
@@ -54,7 +63,10 @@ pub fn command_line_of(words: &[Text]) -> Option<CommandLine<'_>>
     if let Some(command) = gen_command(words) {
         return Some(command);
     }
-    ta_command(words)
+    if let Some(command) = ta_command(words) {
+        return Some(command);
+    }
+    feed_command(words)
 }
 
 /// The command of the words `top FILE COLUMN MAX K`.
@@ -131,6 +143,24 @@ fn ta_command(words: &[Text]) -> Option<CommandLine<'_>>
         return None;
     }
     Some(CommandLine::Threshold(script))
+}
+
+/// The command of the words `feed LEFT RIGHT K`.
+fn feed_command(words: &[Text]) -> Option<CommandLine<'_>>
+    ensures { option_map form_of_command_line result ≡ feed_form words.now }
+{
+    let [word, left, right, count] = words else {
+        return None;
+    };
+    if word.as_str() != "feed" {
+        return None;
+    }
+    let count = number_word(count, 0, MOST_PRINTED)?;
+    Some(CommandLine::Feed(FeedCommand {
+        left,
+        right,
+        count: count as u32,
+    }))
 }
 
 /// A number of the command line: 1 to 20 decimal digits, that write a number from `least` to `most`.

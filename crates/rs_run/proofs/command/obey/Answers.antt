@@ -60,3 +60,9 @@ returns-in-RunGenerated g c = rw c.in-RunGenerated.is (record {
 
 pub returns-in-Threshold : goal.returns-in-Threshold
 returns-in-Threshold g c = rw c.in-Threshold.is (record { does = λ beside. c.run_by_scan.ensures beside; unfetched = λ number rows generated. absurd cc })
+
+pub returns-in-Feed : goal.returns-in-Feed
+returns-in-Feed g c = rw c.in-Feed.is (record {
+  does = λ beside. c.feed.ensures (record beside { files = g.F.Files.state c.args.files.now; scorer = g.S.Scorer.state c.args.scorer.now; out = g.O.Sink.state c.args.out.now });
+  unfetched = λ number rows generated. absurd cc;
+})

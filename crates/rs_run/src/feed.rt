@@ -1,0 +1,103 @@
+//! The word `feed`: the first pairs of two ranked feeds.
+
+ghost use Rattle.std.specs.Prelude.{◌≡◌, ◌⊎◌, IfOk};
+ghost use Rattle.rs_events.specs.Environment.{Environment};
+ghost use Rattle.rs_events.specs.Events.{finds_in};
+ghost use Rattle.rs_events.specs.Running.{Runs};
+ghost use Rattle.rs_run.specs.FeedTold as told;
+ghost use Rattle.rs_run.specs.Faults.{run_faults};
+ghost use Rattle.rs_run.specs.Running.{IsFormRun};
+ghost use Rattle.rs_run.specs.Words.{Feed};
+
+use crate::fault::RunFault;
+use rs_outside::{Files, Sink};
+use rs_statement::{Fault, only_row};
+use rs_table_feed::RangeFault;
+use rs_value::{Memory, Text};
+use rs_words::{WordFault, feed_word};
+use std::alloc::Global;
+
+/// The greatest score of a row of a feed.
+const MOST_SCORE: u32 = 4_294_967_295;
+
+/// Joins two ranked feeds, and puts their first `count` pairs and how often both were drawn.
+pub fn feed<F: Files, O: Sink>(
+    alloc: Global,
+    left: &Text,
+    right: &Text,
+    count: u32,
+    files: &mut F,
+    out: &mut O,
+) -> Result<(), RunFault>
+    ensures { (beside : Environment) → Runs run_faults
+        (IsFormRun (finds_in (F.state files.old).told) beside.scorer.answer (Feed (record { left = left.now; right = right.now; count = count }))) result
+        (record beside { files = F.state files.old; out = O.state out.old }) (record beside { files = F.state files.new; out = O.state out.new }) }
+{
+    match feed_word(alloc, left, right, count, files, out) {
+        Ok(()) => Ok(()),
+        Err(why) => Err(word_fault(alloc, left, right, why)),
+    }
+}
+
+/// The fault of a word over feeds, told by the names of its files; or there is no memory for that.
+fn word_fault(alloc: Global, left: &Text, right: &Text, why: WordFault) -> RunFault
+    ensures { (result ≡ told.word_fault left.now right.now why) ⊎ (result ≡ RunFault.Statement Fault.Memory) }
+{
+    match named_fault(alloc, left, right, why) {
+        Ok(fault) => fault,
+        Err(_) => RunFault::Statement(Fault::Memory),
+    }
+}
+
+/// The same, where there is memory.
+fn named_fault(alloc: Global, left: &Text, right: &Text, why: WordFault) -> Result<RunFault, Memory>
+    ensures { IfOk result (λ fault. fault ≡ told.word_fault left.now right.now why) }
+{
+    match why {
+        WordFault::Read { file, fault } => {
+            let name = file_name(left, right, file)?;
+            Ok(RunFault::Statement(Fault::Read { name, why: fault }))
+        }
+        WordFault::Write => Ok(RunFault::Statement(Fault::Write)),
+        WordFault::Table { file, fault } => {
+            let name = file_name(left, right, file)?;
+            Ok(RunFault::Statement(Fault::Table { name, why: fault }))
+        }
+        WordFault::Range { fault, .. } => range_fault(alloc, fault),
+        WordFault::Order {
+            side,
+            row,
+            before,
+            got,
+        } => {
+            let name = file_name(left, right, side)?;
+            Ok(RunFault::Order {
+                name,
+                row,
+                before,
+                got,
+            })
+        }
+        WordFault::Memory => Ok(RunFault::Statement(Fault::Memory)),
+    }
+}
+
+/// The fault of a row whose number is no score.
+fn range_fault(alloc: Global, why: RangeFault) -> Result<RunFault, Memory>
+    ensures { IfOk result (λ fault. fault ≡ told.range_fault why) }
+{
+    let predicate = Text::from(String::from_str(alloc, "score")?);
+    Ok(RunFault::Statement(Fault::BadScore {
+        predicate,
+        rows: only_row(why.row),
+        got: why.got as i128,
+        max: MOST_SCORE,
+    }))
+}
+
+/// The name of a file by its number: 1 is the left one.
+fn file_name(left: &Text, right: &Text, file: u8) -> Result<Text, Memory>
+    ensures { IfOk result (λ name. name ≡ told.file_name left.now right.now file) }
+{
+    if file == 1 { left.copy() } else { right.copy() }
+}

@@ -1,0 +1,4 @@
+pub mod RunFacts
+pub mod CallFacts
+pub mod FeedingFacts
+pub mod FaultFacts

@@ -1,0 +1,72 @@
+use rs_events::HaltFault;
+use rs_outside::{FetchFault, SinkFault};
+use rs_table::TableFault;
+use rs_table_feed::RangeFault;
+use rs_value::Memory;
+use std::alloc::AllocFailed;
+
+/// What ends a word early. Files are 1, the left one or the only one, and 2; and so are the sides of a join. A kept fault is never
+/// want of memory.
+#[derive(Debug, Drop, PartialEq, Eq)]
+pub enum WordFault {
+    /// A file was not read.
+    Read {
+        file: u8,
+        fault: FetchFault,
+    },
+    /// Standard output failed.
+    Write,
+    /// A file is no table of a text and a number.
+    Table {
+        file: u8,
+        fault: TableFault,
+    },
+    /// A number of a file's table is no score.
+    Range {
+        file: u8,
+        fault: RangeFault,
+    },
+    /// The score of a drawn row, `got`, is greater than that of the row before it. Rows are counted from 1.
+    Order {
+        side: u8,
+        row: u32,
+        before: u32,
+        got: u32,
+    },
+    Memory,
+}
+
+impl From<Memory> for WordFault {
+    ghost use Rattle.std.specs.Prelude.{◌≡◌};
+    ghost use Rattle.rs_words.specs.declared.fault.WordFault.TheVariants as word;
+
+    ghost from_gives = { λ _ fault. fault ≡ word.Memory };
+
+    fn from(_memory: Memory) -> WordFault {
+        WordFault::Memory
+    }
+}
+
+impl<T: Drop> From<AllocFailed<T>> for WordFault {
+    ghost use Rattle.std.specs.Prelude.{◌≡◌};
+    ghost use Rattle.rs_words.specs.declared.fault.WordFault.TheVariants as word;
+
+    ghost from_gives = { λ _ fault. fault ≡ word.Memory };
+
+    fn from(_failed: AllocFailed<T>) -> WordFault {
+        WordFault::Memory
+    }
+}
+
+impl HaltFault for WordFault {
+    ghost use Rattle.rs_words.specs.Faults.{put_faults};
+
+    ghost faults = { put_faults };
+
+    fn of_put(why: SinkFault) -> WordFault {
+        match why {
+            SinkFault::Failed => WordFault::Write,
+            SinkFault::Memory => WordFault::Memory,
+        }
+    }
+}

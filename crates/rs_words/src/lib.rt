@@ -1,0 +1,14 @@
+//! The words of the command line that work on ranked feeds: what each fetches, puts and refuses.
+//!
+//! Its promise: a word makes exactly the events of its definition, up to a halt; its answer tells that halt; and it draws of a
+//! feed no more than what it has put takes.
+#![tactic(auto)]
+
+mod fault;
+mod feed_file;
+mod feeding;
+mod joining;
+mod lines;
+
+pub use fault::WordFault;
+pub use feeding::feed_word;
