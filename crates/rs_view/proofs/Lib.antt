@@ -1,0 +1,5 @@
+pub mod CallFacts
+pub mod MergeFacts
+pub mod RowFacts
+pub mod SplitFacts
+pub mod StandFacts
