@@ -1,4 +1,6 @@
 pub mod CallFacts
+pub mod FirstFacts
+pub mod GrowFacts
 pub mod MergeFacts
 pub mod RowFacts
 pub mod SplitFacts

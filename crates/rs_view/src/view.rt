@@ -1,4 +1,4 @@
-ghost use Rattle.std.specs.Prelude.{◌≡◌, IfErr, OnErr, OnOk};
+ghost use Rattle.std.specs.Prelude.{◌≡◌, IfErr, IfOk, OnErr, OnOk};
 ghost use Rattle.rs_expr.specs.InOrder.{Inquires};
 ghost use Rattle.rs_plain.specs.Results.{NamesCalled};
 ghost use Rattle.rs_query.specs.Blocks.{block_in};
@@ -57,7 +57,7 @@ impl View {
         requires keepable { IsKeepable query }
         ensures makes { Inquires PlainFault.Memory (making (S.state scorer.old).answer catalog.now query) result
             (S.state scorer.old) (S.state scorer.new) }
-        ensures stands { OnOk result (Stands (S.state scorer.new).answer catalog.now) }
+        ensures stands { IfOk result (Stands (S.state scorer.new).answer catalog.now) }
 
         // A bad or failed call is one of a term of the query.
         ensures names { IfErr result (NamesCalled catalog.now query) }
