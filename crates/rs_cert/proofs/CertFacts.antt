@@ -18,10 +18,10 @@ err-ok fault x e = absurd (differ fault x e)
     differ : {A E : Type 0} (fault : E) (x : A) → Err fault ≡ Ok x → ⊥
     differ fault x e = cc
 
-ok-same : {A E : Type 0} {x y : A} → Ok {E = E} x ≡ Ok y → x ≡ y
+ok-same : {A E : Type 0} {x y : A} → ◌≡◌ {A = Result A E} (Ok x) (Ok y) → x ≡ y
 ok-same e = cc
 
-err-same : {A E : Type 0} {x y : E} → Err {A = A} x ≡ Err y → x ≡ y
+err-same : {A E : Type 0} {x y : E} → ◌≡◌ {A = Result A E} (Err x) (Err y) → x ≡ y
 err-same e = cc
 
 -- what each of a list of records says
@@ -90,7 +90,7 @@ record Grew (cert more : Cert) (records : List Fields) : Type 0 where
 
 grew-from : (records : List Fields) (place : ℕ) (cert more : Cert) → with_records place cert records ≡ Ok more → Grew cert more records
 grew-from [] place cert more e = record { entries = []; say = refl; are = ap (λ m. Some m) (ok-same e) }
-grew-from (fields ∷ rest) place cert more e = of (with_record place cert fields) refl e
+grew-from (fields ∷ rest) place cert more e = of (λ made more_read. grew-from rest (place + 1) made more more_read) (with_record place cert fields) refl e
   where
     behind : (made : Cert) → Added cert made fields → Grew made more rest → Grew cert more (fields ∷ rest)
     behind made one others = record {
@@ -99,9 +99,10 @@ grew-from (fields ∷ rest) place cert more e = of (with_record place cert field
       are = rw one.next others.are;
     }
 
-    of : (r : Result Cert CertFault) → with_record place cert fields ≡ r → (r >>= (λ made. with_records (place + 1) made rest)) ≡ Ok more → Grew cert more (fields ∷ rest)
-    of (Ok made) is e = behind made (added-from place cert made fields is) (grew-from rest (place + 1) made more e)
-    of (Err fault) is e = err-ok fault more e
+    of : ((made : Cert) → with_records (place + 1) made rest ≡ Ok more → Grew made more rest) → (r : Result Cert CertFault) → with_record place cert fields ≡ r
+        → (r >>= (λ made. with_records (place + 1) made rest)) ≡ Ok more → Grew cert more (fields ∷ rest)
+    of again (Ok made) is e = behind made (added-from place cert made fields is) (again made e)
+    of again (Err fault) is e = err-ok fault more e
 
 -- a record was refused behind others that were added
 record Stopped (place : ℕ) (cert : Cert) (records : List Fields) (fault : CertFault) : Type 0 where
@@ -114,7 +115,7 @@ record Stopped (place : ℕ) (cert : Cert) (records : List Fields) (fault : Cert
 
 stopped-from : (records : List Fields) (place : ℕ) (cert : Cert) (fault : CertFault) → with_records place cert records ≡ Err fault → Stopped place cert records fault
 stopped-from [] place cert fault e = err-ok fault cert (sym e)
-stopped-from (fields ∷ rest) place cert fault e = of (with_record place cert fields) refl e
+stopped-from (fields ∷ rest) place cert fault e = of (λ made refused. stopped-from rest (place + 1) made fault refused) (with_record place cert fields) refl e
   where
     here : (f : CertFault) → with_record place cert fields ≡ Err f → f ≡ fault → (entries : List Entry) (more : List Fields) → Say ((fields ∷ []) ++ more) entries → grown cert entries ≡ None
     here f is same [] more say = nil-cons say
@@ -129,8 +130,9 @@ stopped-from (fields ∷ rest) place cert fault e = of (with_record place cert f
         let next : next_cert cert entry ≡ Some made = ap (next_cert cert) (sym same) ∙ one.next in
         rw next (behind.refused entries more (tails-same say))
 
-    of : (r : Result Cert CertFault) → with_record place cert fields ≡ r → (r >>= (λ made. with_records (place + 1) made rest)) ≡ Err fault → Stopped place cert (fields ∷ rest) fault
-    of (Err f) is e = record {
+    of : ((made : Cert) → with_records (place + 1) made rest ≡ Err fault → Stopped (place + 1) made rest fault) → (r : Result Cert CertFault) → with_record place cert fields ≡ r
+        → (r >>= (λ made. with_records (place + 1) made rest)) ≡ Err fault → Stopped place cert (fields ∷ rest) fault
+    of again (Err f) is e = record {
       n = 0;
       within = omega arith;
       told = sym (err-same e) ∙ (refused-from place cert fields f is).0 ∙ ap (λ k. Form k) (omega arith);
@@ -138,8 +140,8 @@ stopped-from (fields ∷ rest) place cert fault e = of (with_record place cert f
       front = refl;
       refused = here f is (err-same e);
     }
-    of (Ok made) is e =
-        let behind = stopped-from rest (place + 1) made fault e in
+    of again (Ok made) is e =
+        let behind = again made e in
         record {
           n = suc behind.n;
           within = let inside : behind.n < length rest = behind.within in omega arith;
@@ -244,3 +246,12 @@ cert_of-read (first ∷ rest) = of (wanted_of first) refl
 pub read-from : (records : List Fields) (result : Result Cert CertFault) → (result ≡ cert_of records) ⊎ (result ≡ Err Memory) → IsRead records result
 read-from records result (inl e) = subst (IsRead records) (sym e) (cert_of-read records)
 read-from records result (inr e) = subst (IsRead records) (sym e) tt
+
+-- the records of a certificate are read as it
+pub reads-it : (cert : Cert) (records : List Fields) (result : Result Cert CertFault) → AreRecordsOf cert records → IsRead records result → (result ≡ Ok cert) ⊎ (result ≡ Err Memory)
+reads-it cert records (Ok other) are read = inl (ap (λ c. Ok c) (one-cert other cert records read are))
+reads-it cert records (Err Memory) are read = inr refl
+reads-it cert [] (Err (Form place)) are read = nil-cons (sym are.are)
+reads-it cert (first ∷ rest) (Err (Form place)) are read =
+    let whole : take place (first ∷ rest) ++ drop place (first ∷ rest) ≡ first ∷ rest = take-append-drop place (first ∷ rest) in
+    absurd (read.here (record { cert = cert; more = drop place (first ∷ rest); are = subst (AreRecordsOf cert) (sym whole) are }))

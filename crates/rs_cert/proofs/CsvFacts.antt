@@ -3,14 +3,14 @@ use Rattle.std.proofs.Common.{◌≡◌, ◌⊎◌, inl, inr, ◌<◌, ◌≤◌
 use Rattle.std.specs.Bool.{MatchBool}
 use Rattle.std.specs.Borrow.{Bor}
 use Rattle.csv.specs.Machine.{Read, ends_at_end, field_after, fields_after, is_end, next_record, step}
-use Rattle.csv.specs.Reading.{NextIs, ReadRecord, ReadsNext, Ready, default_config, is_flexible, names_headers, pending_of, reader_config, reader_headers, reader_source, reader_state, reader_trim, records_from, records_next, strip_bom}
+use Rattle.csv.specs.Reading.{NextIs, ReadRecord, ReadsNext, Ready, default_config, is_bom, is_flexible, names_headers, pending_of, reader_config, reader_headers, reader_source, reader_state, reader_trim, records_from, records_next, strip_bom}
 use Rattle.csv.specs.Writing.{default_writer, read_back, row_text}
 use Rattle.csv.specs.declared.reader.Trim.TheVariants as trim
 use Rattle.csv.specs.declared.parser.Config.{Config}
 use Rattle.csv.specs.declared.parser.State.{State}
 use Rattle.csv.specs.declared.parser.State.TheVariants as st
 use Rattle.csv.proofs.RoundTrip.{read-write}
-use Rattle.rs_cert.specs.Csv.{ByteReader, Fields, IsReading, bytes_left, records_after, records_left}
+use Rattle.rs_cert.specs.Csv.{ByteReader, Fields, IsReading, bytes_left, records_after, records_left, records_of}
 use Rattle.rs_cert.specs.Written.{text_of}
 
 -- a read leaves fewer bytes than these, or it ended with the text
@@ -141,3 +141,29 @@ records-written (row ∷ rows) =
     records_from-first default_config st.StartRecord (row_text default_writer row ++ text_of rows)
     ∙ ap (after_read default_config) (read-write row (text_of rows))
     ∙ ap (λ (more : List Fields). read_back row ∷ more) (records-written rows)
+
+-- a text is no longer without the mark at its start
+length-strip_bom : (xs : List ℕ) → length (strip_bom xs) ≤ length xs
+unfolding strip_bom
+length-strip_bom [] = omega arith
+length-strip_bom (a ∷ []) = omega arith
+length-strip_bom (a ∷ b ∷ []) = omega arith
+length-strip_bom (a ∷ b ∷ c ∷ rest) = of (is_bom a b c)
+  where
+    of : (mark : Bool) → length (if mark then rest else a ∷ b ∷ c ∷ rest) ≤ length (a ∷ b ∷ c ∷ rest)
+    of true = omega arith
+    of false = omega arith
+
+-- there are no more records than were counted
+length-records_from : (cfg : Config) (n : ℕ) (s : State) (xs : List ℕ) → length (records_from cfg n s xs) ≤ n
+unfolding records_from
+length-records_from cfg zero s xs = omega arith
+length-records_from cfg (suc n) s xs = behind (next_record cfg s [] [] xs) (λ t ys. length-records_from cfg n t ys)
+  where
+    behind : (read : Option Read) → ((t : State) (ys : List ℕ) → length (records_from cfg n t ys) ≤ n) → length (records_next (records_from cfg n) read) ≤ suc n
+    behind None few = omega arith
+    behind (Some p) few = omega (arith, few p.1 p.2)
+
+-- a file has at most one record more than bytes
+pub few-records : (bytes : List ℕ) → length (records_of bytes) ≤ length bytes + 1
+few-records bytes = omega (arith, length-records_from default_config (length (strip_bom bytes) + 1) st.StartRecord (strip_bom bytes), length-strip_bom bytes)

@@ -120,7 +120,7 @@ more-pair cert left right = record {
       ap (λ (es : List Entry). lefts (side_entries cert.left) ++ (rights (side_entries cert.right) ++ es)) (map-append (λ (pair : ℕ × ℕ). OfPair pair.0 pair.1) cert.pairs ((left, right) ∷ []))
       ∙ ap (λ (es : List Entry). lefts (side_entries cert.left) ++ es) (sym (append_assoc (rights (side_entries cert.right)) (numbers cert.pairs) (OfPair left right ∷ [])))
       ∙ sym (append_assoc (lefts (side_entries cert.left)) (rights (side_entries cert.right) ++ numbers cert.pairs) (OfPair left right ∷ []));
-  few = λ few. few;
+  few = λ few. record { left = few.left; right = few.right };
   same = refl;
 }
 

@@ -1,6 +1,6 @@
 -- What is written of a certificate is read back.
-use Rattle.std.proofs.Common.{◌≡◌, ℕ, ◌+◌, ◌≤◌, ◌&&◌, pos, Bool, true, false, cond, List, [], ◌∷◌, ◌++◌, codes, length, map, Option, Some, None, option_map, refl, sym, ap, ap₂, ◌∙◌, subst, arith, append_assoc}
-use Rattle.std.proofs.lemmas.List.{map-append}
+use Rattle.std.proofs.Common.{◌≡◌, ℕ, ◌+◌, ◌≤◌, ◌<◌, ◌&&◌, pos, Bool, true, false, cond, List, [], ◌∷◌, ◌++◌, codes, get_or, length, map, take, Option, Some, None, option_map, refl, sym, ap, ap₂, ◌∙◌, subst, arith, append_assoc}
+use Rattle.std.proofs.lemmas.List.{append-nil, map-append, take_all, take_more}
 use Rattle.std.proofs.lemmas.List.Concat.{flat_map-append}
 use Rattle.std.specs.Cmp.Lexicographic.{bytes_decides}
 use Rattle.std.specs.Fmt.{decimal}
@@ -9,6 +9,7 @@ use Rattle.std.specs.Str.{bytes_eq, is_utf8}
 use Rattle.csv.specs.Reading.{default_config, records, strip_bom}
 use Rattle.csv.specs.Writing.{default_writer, read_back, row_text}
 use Rattle.rs_feed.specs.declared.feed_row.FeedRow.{FeedRow}
+use Rattle.rs_order.proofs.EachFacts.{each-append}
 use Rattle.rs_value.specs.Number.{int_value}
 use Rattle.rs_cert.specs.declared.cert.Cert.{Cert}
 use Rattle.rs_cert.specs.declared.cert.CertSide.{CertSide}
@@ -139,3 +140,62 @@ pub written-back : (cert : Cert) (bytes : List ℕ) → bytes ≡ written cert �
     → AreRecordsOf cert (records_of bytes)
 written-back cert bytes are wanted few lefts rights pairs =
     subst (AreRecordsOf cert) (sym (ap records_of are ∙ written-records cert)) (written-are cert wanted few lefts rights pairs)
+
+-- one record more that is written
+text-one : (front : List Fields) (fields : Fields) → text_of (front ++ fields ∷ []) ≡ text_of front ++ row_text default_writer fields
+text-one front fields = flat_map-append (row_text default_writer) front (fields ∷ []) ∙ ap (λ list. text_of front ++ list) (append-nil (row_text default_writer fields))
+
+more-at : {A : Type 0} (xs : List A) (i : ℕ) (x : A) → i < length xs → x ≡ get_or xs i x → take (i + 1) xs ≡ take i xs ++ x ∷ []
+more-at xs i x within e = take_more xs i x within ∙ ap (λ y. take i xs ++ y ∷ []) (sym e)
+
+pub text-more : {A : Type 0} (said : A → Fields) (xs : List A) (i : ℕ) (x : A) (old made new : List ℕ) → i < length xs → x ≡ get_or xs i x → made ≡ old ++ text_of (map said (take i xs)) → new ≡ made ++ row_text default_writer (said x)
+    → new ≡ old ++ text_of (map said (take (i + 1) xs))
+text-more said xs i x old made new within is so_far put =
+    let more : text_of (map said (take (i + 1) xs)) ≡ text_of (map said (take i xs)) ++ row_text default_writer (said x) =
+    ap (λ list. text_of (map said list)) (more-at xs i x within is) ∙ ap text_of (map-append said (take i xs) (x ∷ [])) ∙ text-one (map said (take i xs)) (said x) in
+    put ∙ ap (λ list. list ++ row_text default_writer (said x)) so_far
+    ∙ append_assoc old (text_of (map said (take i xs))) (row_text default_writer (said x))
+    ∙ ap (λ list. old ++ list) (sym more)
+
+pub each-more : {A : Type 0} (P : A → Type 0) (xs : List A) (i : ℕ) (x : A) → i < length xs → x ≡ get_or xs i x → AllByRecursion P (take i xs) → P x → AllByRecursion P (take (i + 1) xs)
+each-more P xs i x within is front there = subst (AllByRecursion P) (sym (more-at xs i x within is)) (each-append P (take i xs) (x ∷ []) front (there, tt))
+
+-- all of a list
+pub text-all : {A : Type 0} (said : A → Fields) (xs : List A) (i : ℕ) (old made : List ℕ) → length xs ≤ i → made ≡ old ++ text_of (map said (take i xs)) → made ≡ old ++ text_of (map said xs)
+text-all said xs i old made all so_far = so_far ∙ ap (λ list. old ++ text_of (map said list)) (take_all i xs all)
+
+pub each-all : {A : Type 0} (P : A → Type 0) (xs : List A) (i : ℕ) → length xs ≤ i → AllByRecursion P (take i xs) → AllByRecursion P xs
+each-all P xs i all front = subst (AllByRecursion P) (take_all i xs all) front
+
+-- the rows of a side, and its end
+pub side-ended : (name : List ℕ) (side : CertSide) (old made new : List ℕ) → made ≡ old ++ text_of (map (row_record name) side.rows) → side.ended ≡ true → new ≡ made ++ row_text default_writer (end_record name)
+    → new ≡ old ++ text_of (side_records name side)
+side-ended name side old made new rows ended put =
+    let records : side_records name side ≡ map (row_record name) side.rows ++ end_record name ∷ [] = rw ended refl in
+    put ∙ ap (λ list. list ++ row_text default_writer (end_record name)) rows
+    ∙ append_assoc old (text_of (map (row_record name) side.rows)) (row_text default_writer (end_record name))
+    ∙ ap (λ list. old ++ list) (sym (text-one (map (row_record name) side.rows) (end_record name)))
+    ∙ ap (λ list. old ++ text_of list) (sym records)
+
+pub side-goes_on : (name : List ℕ) (side : CertSide) (old made : List ℕ) → made ≡ old ++ text_of (map (row_record name) side.rows) → side.ended ≡ false → made ≡ old ++ text_of (side_records name side)
+side-goes_on name side old made rows goes =
+    let records : side_records name side ≡ map (row_record name) side.rows = rw goes (append-nil (map (row_record name) side.rows)) in
+    rows ∙ ap (λ list. old ++ text_of list) (sym records)
+
+-- all parts of a certificate
+pub parts-written : (cert : Cert) (a b c d : List ℕ) → a ≡ [] ++ text_of (wanted_record cert.k ∷ []) → b ≡ a ++ text_of (side_records (codes "left") cert.left)
+    → c ≡ b ++ text_of (side_records (codes "right") cert.right) → d ≡ c ++ text_of (map pair_record cert.pairs) → d ≡ written cert
+parts-written cert a b c d e f g h =
+    let sides : text_of (side_records (codes "left") cert.left ++ (side_records (codes "right") cert.right ++ map pair_record cert.pairs))
+    ≡ text_of (side_records (codes "left") cert.left) ++ (text_of (side_records (codes "right") cert.right) ++ text_of (map pair_record cert.pairs)) =
+    flat_map-append (row_text default_writer) (side_records (codes "left") cert.left) (side_records (codes "right") cert.right ++ map pair_record cert.pairs)
+    ∙ ap (λ list. text_of (side_records (codes "left") cert.left) ++ list) (flat_map-append (row_text default_writer) (side_records (codes "right") cert.right) (map pair_record cert.pairs)) in
+    let all : written cert ≡ text_of (wanted_record cert.k ∷ []) ++ (text_of (side_records (codes "left") cert.left) ++ (text_of (side_records (codes "right") cert.right) ++ text_of (map pair_record cert.pairs))) =
+    flat_map-append (row_text default_writer) (wanted_record cert.k ∷ []) (side_records (codes "left") cert.left ++ (side_records (codes "right") cert.right ++ map pair_record cert.pairs))
+    ∙ ap (λ list. text_of (wanted_record cert.k ∷ []) ++ list) sides in
+    h ∙ ap (λ list. list ++ text_of (map pair_record cert.pairs)) (g ∙ ap (λ list. list ++ text_of (side_records (codes "right") cert.right)) (f ∙ ap (λ list. list ++ text_of (side_records (codes "left") cert.left)) e))
+    ∙ regroup (text_of (wanted_record cert.k ∷ [])) (text_of (side_records (codes "left") cert.left)) (text_of (side_records (codes "right") cert.right)) (text_of (map pair_record cert.pairs))
+    ∙ sym all
+  where
+    regroup : (u v w x : List ℕ) → (((([] ++ u) ++ v) ++ w) ++ x) ≡ u ++ (v ++ (w ++ x))
+    regroup u v w x = simp append_assoc
