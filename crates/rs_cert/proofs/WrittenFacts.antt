@@ -1,6 +1,6 @@
 -- What is written of a certificate is read back.
 use Rattle.std.proofs.Common.{◌≡◌, ℕ, ◌+◌, ◌≤◌, ◌<◌, ◌&&◌, pos, Bool, true, false, cond, List, [], ◌∷◌, ◌++◌, codes, get_or, length, map, take, Option, Some, None, option_map, refl, sym, ap, ap₂, ◌∙◌, subst, arith, append_assoc}
-use Rattle.std.proofs.lemmas.List.{append-nil, map-append, take_all, take_more}
+use Rattle.std.proofs.lemmas.List.{append-nil, map-append, take_more}
 use Rattle.std.proofs.lemmas.List.Concat.{flat_map-append}
 use Rattle.std.specs.Cmp.Lexicographic.{bytes_decides}
 use Rattle.std.specs.Fmt.{decimal}
@@ -19,7 +19,7 @@ use Rattle.rs_cert.specs.declared.entry.SideEntry.{SideEntry}
 use Rattle.rs_cert.specs.declared.entry.SideEntry.TheVariants.{Row, End}
 use Rattle.rs_cert.specs.Csv.{Fields, records_of}
 use Rattle.rs_cert.specs.Records.{AreRecordsOf, HasFewRows, entries_of, entry_of, greatest_number, most_wanted, number_up_to, says_end, side_entries, side_entry_of, wanted_of}
-use Rattle.rs_cert.specs.Written.{AreWritablePairs, AreWritableRows, IsWritablePair, IsWritableRow, end_record, pair_record, row_record, side_records, text_of, wanted_record, written, written_records}
+use Rattle.rs_cert.specs.Written.{AreWritablePairs, AreWritableRows, IsWritablePair, IsWritableRow, end_record, end_records, pair_record, row_record, side_records, text_of, wanted_record, written, written_records}
 use Rattle.rs_cert.proofs.CsvFacts.{records-written}
 use Rattle.rs_cert.proofs.NumeralFacts.{int_value-decimal, number_up_to-decimal}
 
@@ -145,42 +145,26 @@ written-back cert bytes are wanted few lefts rights pairs =
 text-one : (front : List Fields) (fields : Fields) → text_of (front ++ fields ∷ []) ≡ text_of front ++ row_text default_writer fields
 text-one front fields = flat_map-append (row_text default_writer) front (fields ∷ []) ∙ ap (λ list. text_of front ++ list) (append-nil (row_text default_writer fields))
 
-more-at : {A : Type 0} (xs : List A) (i : ℕ) (x : A) → i < length xs → x ≡ get_or xs i x → take (i + 1) xs ≡ take i xs ++ x ∷ []
-more-at xs i x within e = take_more xs i x within ∙ ap (λ y. take i xs ++ y ∷ []) (sym e)
-
-pub text-more : {A : Type 0} (said : A → Fields) (xs : List A) (i : ℕ) (x : A) (old made new : List ℕ) → i < length xs → x ≡ get_or xs i x → made ≡ old ++ text_of (map said (take i xs)) → new ≡ made ++ row_text default_writer (said x)
+pub text-at : {A : Type 0} (said : A → Fields) (xs : List A) (i : ℕ) (d : A) (old made new : List ℕ) → i < length xs → made ≡ old ++ text_of (map said (take i xs)) → new ≡ made ++ row_text default_writer (said (get_or xs i d))
     → new ≡ old ++ text_of (map said (take (i + 1) xs))
-text-more said xs i x old made new within is so_far put =
-    let more : text_of (map said (take (i + 1) xs)) ≡ text_of (map said (take i xs)) ++ row_text default_writer (said x) =
-    ap (λ list. text_of (map said list)) (more-at xs i x within is) ∙ ap text_of (map-append said (take i xs) (x ∷ [])) ∙ text-one (map said (take i xs)) (said x) in
-    put ∙ ap (λ list. list ++ row_text default_writer (said x)) so_far
-    ∙ append_assoc old (text_of (map said (take i xs))) (row_text default_writer (said x))
+text-at said xs i d old made new within so_far put =
+    let more : text_of (map said (take (i + 1) xs)) ≡ text_of (map said (take i xs)) ++ row_text default_writer (said (get_or xs i d)) =
+    ap (λ list. text_of (map said list)) (take_more xs i d within) ∙ ap text_of (map-append said (take i xs) (get_or xs i d ∷ [])) ∙ text-one (map said (take i xs)) (said (get_or xs i d)) in
+    put ∙ ap (λ list. list ++ row_text default_writer (said (get_or xs i d))) so_far
+    ∙ append_assoc old (text_of (map said (take i xs))) (row_text default_writer (said (get_or xs i d)))
     ∙ ap (λ list. old ++ list) (sym more)
 
-pub each-more : {A : Type 0} (P : A → Type 0) (xs : List A) (i : ℕ) (x : A) → i < length xs → x ≡ get_or xs i x → AllByRecursion P (take i xs) → P x → AllByRecursion P (take (i + 1) xs)
-each-more P xs i x within is front there = subst (AllByRecursion P) (sym (more-at xs i x within is)) (each-append P (take i xs) (x ∷ []) front (there, tt))
-
--- all of a list
-pub text-all : {A : Type 0} (said : A → Fields) (xs : List A) (i : ℕ) (old made : List ℕ) → length xs ≤ i → made ≡ old ++ text_of (map said (take i xs)) → made ≡ old ++ text_of (map said xs)
-text-all said xs i old made all so_far = so_far ∙ ap (λ list. old ++ text_of (map said list)) (take_all i xs all)
-
-pub each-all : {A : Type 0} (P : A → Type 0) (xs : List A) (i : ℕ) → length xs ≤ i → AllByRecursion P (take i xs) → AllByRecursion P xs
-each-all P xs i all front = subst (AllByRecursion P) (take_all i xs all) front
+pub each-at : {A : Type 0} (P : A → Type 0) (xs : List A) (i : ℕ) (d : A) → i < length xs → AllByRecursion P (take i xs) → P (get_or xs i d) → AllByRecursion P (take (i + 1) xs)
+each-at P xs i d within front there = subst (AllByRecursion P) (sym (take_more xs i d within)) (each-append P (take i xs) (get_or xs i d ∷ []) front (there, tt))
 
 -- the rows of a side, and its end
-pub side-ended : (name : List ℕ) (side : CertSide) (old made new : List ℕ) → made ≡ old ++ text_of (map (row_record name) side.rows) → side.ended ≡ true → new ≡ made ++ row_text default_writer (end_record name)
+pub side-put : (name : List ℕ) (side : CertSide) (rows : List FeedRow) (old made new : List ℕ) → rows ≡ side.rows → made ≡ old ++ text_of (map (row_record name) rows) → new ≡ made ++ text_of (end_records name side.ended)
     → new ≡ old ++ text_of (side_records name side)
-side-ended name side old made new rows ended put =
-    let records : side_records name side ≡ map (row_record name) side.rows ++ end_record name ∷ [] = rw ended refl in
-    put ∙ ap (λ list. list ++ row_text default_writer (end_record name)) rows
-    ∙ append_assoc old (text_of (map (row_record name) side.rows)) (row_text default_writer (end_record name))
-    ∙ ap (λ list. old ++ list) (sym (text-one (map (row_record name) side.rows) (end_record name)))
-    ∙ ap (λ list. old ++ text_of list) (sym records)
-
-pub side-goes_on : (name : List ℕ) (side : CertSide) (old made : List ℕ) → made ≡ old ++ text_of (map (row_record name) side.rows) → side.ended ≡ false → made ≡ old ++ text_of (side_records name side)
-side-goes_on name side old made rows goes =
-    let records : side_records name side ≡ map (row_record name) side.rows = rw goes (append-nil (map (row_record name) side.rows)) in
-    rows ∙ ap (λ list. old ++ text_of list) (sym records)
+side-put name side rows old made new same put_rows put_end =
+    put_end
+    ∙ ap (λ list. list ++ text_of (end_records name side.ended)) (put_rows ∙ ap (λ list. old ++ text_of (map (row_record name) list)) same)
+    ∙ append_assoc old (text_of (map (row_record name) side.rows)) (text_of (end_records name side.ended))
+    ∙ ap (λ list. old ++ list) (sym (flat_map-append (row_text default_writer) (map (row_record name) side.rows) (end_records name side.ended)))
 
 -- all parts of a certificate
 pub parts-written : (cert : Cert) (a b c d : List ℕ) → a ≡ [] ++ text_of (wanted_record cert.k ∷ []) → b ≡ a ++ text_of (side_records (codes "left") cert.left)

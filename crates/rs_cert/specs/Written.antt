@@ -1,5 +1,5 @@
 -- How a certificate is written.
-use Rattle.std.specs.Prelude.{ℕ, ◌≡◌, ◌≤◌, true, List, [], ◌∷◌, ◌++◌, codes, map, if◌then◌else◌}
+use Rattle.std.specs.Prelude.{ℕ, ◌≡◌, ◌≤◌, Bool, true, List, [], ◌∷◌, ◌++◌, codes, map, if◌then◌else◌}
 use Rattle.std.specs.List.{AllByRecursion, flat_map}
 use Rattle.std.specs.Fmt.{decimal}
 use Rattle.std.specs.Str.{is_utf8}
@@ -21,8 +21,11 @@ row_record name row = name ∷ decimal row.score ∷ row.join ∷ []
 abbrev pub end_record : List ℕ → Fields
 end_record name = name ∷ codes "end" ∷ codes "end" ∷ []
 
+abbrev pub end_records : List ℕ → Bool → List Fields
+end_records name ended = if ended then end_record name ∷ [] else []
+
 abbrev pub side_records : List ℕ → CertSide → List Fields
-side_records name side = map (row_record name) side.rows ++ (if side.ended then end_record name ∷ [] else [])
+side_records name side = map (row_record name) side.rows ++ end_records name side.ended
 
 abbrev pub pair_record : ℕ × ℕ → Fields
 pair_record pair = codes "pair" ∷ decimal pair.0 ∷ decimal pair.1 ∷ []

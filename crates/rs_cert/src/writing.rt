@@ -3,11 +3,12 @@ ghost use Rattle.csv.specs.Records.{fields_of};
 ghost use Rattle.csv.specs.Writing.{default_writer, row_text};
 ghost use Rattle.rs_cert.specs.Csv.{records_of};
 ghost use Rattle.rs_cert.specs.Records.{AreRecordsOf, HasFewRows, most_wanted};
-ghost use Rattle.rs_cert.specs.Written.{AreWritablePairs, AreWritableRows, pair_record, side_records, text_of, wanted_record, written};
+ghost use Rattle.rs_cert.specs.Written.{AreWritablePairs, AreWritableRows, IsWritablePair, IsWritableRow, end_records, pair_record, row_record, side_records, text_of, wanted_record, written};
 
 use crate::cert::{Cert, CertSide};
 use csv::{ByteRecord, WriterBuilder};
 use itoa::Buffer;
+use rs_feed::FeedRow;
 use rs_value::Memory;
 use std::alloc::Global;
 use std::mem;
@@ -58,11 +59,36 @@ impl WrittenRecords {
         ensures records { OnOk result (self.new.text.items ≡ self.old.text.items ++ text_of (side_records name.now side.now)) }
         ensures rows { OnOk result (AreWritableRows side.now.rows) }
     {
-        let mut digits = Buffer::new();
-        for row in side.rows.items() {
-            self.put(name, digits.format(row.score).as_bytes(), row.join.bytes())?;
+        self.put_rows(name, side.rows.items())?;
+        self.put_end(name, side.ended)?;
+        Ok(())
+    }
+
+    /// Writes the records of the rows of a side with this name.
+    fn put_rows(&mut self, name: &[u8], rows: &[FeedRow]) -> Result<(), Memory>
+        ensures records { OnOk result (self.new.text.items ≡ self.old.text.items ++ text_of (map (row_record name.now) rows.now)) }
+        ensures rows { OnOk result (AreWritableRows rows.now) }
+    {
+        for row in rows {
+            self.put_row(name, row)?;
         }
-        if side.ended {
+        Ok(())
+    }
+
+    /// Writes the record of a row of a side with this name.
+    fn put_row(&mut self, name: &[u8], row: &FeedRow) -> Result<(), Memory>
+        ensures bytes { OnOk result (self.new.text.items ≡ self.old.text.items ++ row_text default_writer (row_record name.now row.now)) }
+        ensures fits { IsWritableRow row.now }
+    {
+        let mut digits = Buffer::new();
+        self.put(name, digits.format(row.score).as_bytes(), row.join.bytes())
+    }
+
+    /// Writes the record of the end of a side with this name, if it ended.
+    fn put_end(&mut self, name: &[u8], ended: bool) -> Result<(), Memory>
+        ensures { OnOk result (self.new.text.items ≡ self.old.text.items ++ text_of (end_records name.now ended)) }
+    {
+        if ended {
             self.put(name, b"end".as_slice(), b"end".as_slice())?;
         }
         Ok(())
@@ -73,13 +99,24 @@ impl WrittenRecords {
         ensures records { OnOk result (self.new.text.items ≡ self.old.text.items ++ text_of (map pair_record pairs.now)) }
         ensures pairs { OnOk result (AreWritablePairs pairs.now) }
     {
-        let mut left_digits = Buffer::new();
-        let mut right_digits = Buffer::new();
-        for (left, right) in pairs {
-            let left = left_digits.format(*left).as_bytes();
-            self.put(b"pair".as_slice(), left, right_digits.format(*right).as_bytes())?;
+        for pair in pairs {
+            self.put_pair(pair)?;
         }
         Ok(())
+    }
+
+    /// Writes the record of a pair.
+    fn put_pair(&mut self, pair: &(u32, u32)) -> Result<(), Memory>
+        ensures bytes { OnOk result (self.new.text.items ≡ self.old.text.items ++ row_text default_writer (pair_record pair.now)) }
+        ensures fits { IsWritablePair pair.now }
+    {
+        let mut left = Buffer::new();
+        let mut right = Buffer::new();
+        self.put(
+            b"pair".as_slice(),
+            left.format(pair.0).as_bytes(),
+            right.format(pair.1).as_bytes(),
+        )
     }
 
     /// Writes a record of three fields.

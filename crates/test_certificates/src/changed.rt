@@ -81,7 +81,8 @@ fn counts_of(alloc: Global, bytes: &[u8]) -> Result<Counts, Fail>
     };
     let mut changed = bytes.to_vec(alloc)?;
     for (place, byte) in bytes.iter().enumerate() {
-        for other in 0..=255 {
+        for other in 0..256u16 {
+            let other = other as u8;
             if other != *byte {
                 changed[place] = other;
                 counts.count(alloc, &changed)?;

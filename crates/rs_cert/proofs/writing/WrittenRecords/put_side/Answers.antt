@@ -1,14 +1,11 @@
-use Rattle.std.proofs.Common.{◌∙◌, sym, arith}
-use Rattle.std.proofs.lemmas.Str.{is_utf8-from_IsUtf8}
-use Rattle.rs_cert.specs.Written.{IsWritableRow, row_record}
-use Rattle.rs_cert.proofs.WrittenFacts.{each-all, each-more, side-ended, side-goes_on, text-all, text-more}
+use Rattle.std.proofs.Common.{◌∙◌, subst}
+use Rattle.rs_cert.specs.Written.{AreWritableRows}
+use Rattle.rs_cert.proofs.WrittenFacts.{side-put}
 use Rattle.rs_cert.proofs.writing.WrittenRecords.put_side.Goals as goal
 
-pub loop-row-preserved : goal.loop-row-preserved
-loop-row-preserved c = ?
-
 pub returns-clause-records : goal.returns-clause-records
-returns-clause-records c = ?
+returns-clause-records c =
+    side-put c.args.name.now c.args.side.now c.deref.result.now c.args.self.now.text.items c.put_rows.new.self.text.items c.put_end.new.self.text.items (c.deref.ensures.value ∙ c.items.ensures) c.in_ok-put_rows.ensures.records c.in_ok-put_end.ensures
 
 pub returns-clause-rows : goal.returns-clause-rows
-returns-clause-rows c = ?
+returns-clause-rows c = subst AreWritableRows (c.deref.ensures.value ∙ c.items.ensures) c.in_ok-put_rows.ensures.rows
