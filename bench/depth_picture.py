@@ -23,8 +23,13 @@ def draw(lines, table, picture):
     most_depth = max(depth for _, points in lines for _, depth in points)
     least, most = min(all_rows), max(all_rows)
     top_depth = 10 ** math.ceil(math.log10(most_depth))
-    x = lambda rows: place(rows, least, most, LEFT, WIDTH - RIGHT)
-    y = lambda depth: place(max(1, depth), 1, top_depth, HEIGHT - BOTTOM, TOP)
+
+    def x(rows):
+        return place(rows, least, most, LEFT, WIDTH - RIGHT)
+
+    def y(depth):
+        return place(max(1, depth), 1, top_depth, HEIGHT - BOTTOM, TOP)
+
     made = [
         f'<svg xmlns="http://www.w3.org/2000/svg" viewBox="0 0 {WIDTH} {HEIGHT}" font-family="sans-serif" font-size="12">',
         f'<rect width="{WIDTH}" height="{HEIGHT}" fill="#ffffff"/>',

@@ -23,6 +23,7 @@ import sys
 import time
 
 program, folder, runs, more, root = sys.argv[1], sys.argv[2], int(sys.argv[3]), int(sys.argv[4]), sys.argv[5]
+sys.dont_write_bytecode = True
 sys.path.insert(0, root + "/bench")
 from depth_picture import draw  # noqa: E402
 

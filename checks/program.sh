@@ -307,17 +307,18 @@ while IFS= read -r script; do
         failed "the example $script has no file ${script%.sql}.out of what it prints"
         continue
     fi
-    # Only `run` says something of a plan. All else is the same under both words.
+    # Only `run` says something of a plan, and only `ta` of accesses. All else is the same under both words.
     words=(plain run)
     case $script in
         */plans.sql | */analyzed.sql | */savings.sql | */tops.sql) words=(run) ;;
+        */threshold.sql) words=(ta) ;;
         *) ! grep -q '^EXPLAIN' "$root/$script" || words=(plain) ;;
     esac
     # The command gives no line feeds at the end, so a mark goes behind them.
     text=$(cat "$wanted" && echo .)
     for word in "${words[@]}"; do
         seed=()
-        [ "$word" = plain ] || seed=(1)
+        [ "$word" != run ] || seed=(1)
         (cd "$root" && timeout 60 "$program" "$word" "$script" "${seed[@]}" >"$work/said/out" 2>"$work/said/err" </dev/null)
         echo $? >"$work/said/status"
         compare "the example $script under $word" 0 "${text%.}" ''
@@ -490,10 +491,6 @@ front="${both}SELECT DISTINCT "
 script "${front}z FROM t ORDER BY p(x);"
 expect 'a column that is not there under ta' 5 '' "script: bind NoColumn at ${#front}"$'\n' -- ta s.sql
 expect 'a seed for ta' 2 '' "$usage"$'\n' -- ta s.sql 1
-(cd "$root" && timeout 60 "$program" ta examples/films/threshold.sql >"$work/said/out" 2>"$work/said/err" </dev/null)
-echo $? >"$work/said/status"
-text=$(cat "$root/examples/films/threshold.out" && echo .)
-compare 'the films of the example by threshold scans' 0 "${text%.}" ''
 
 # ---- two ranked feeds
 printf 'key,score\na,9\nb,8\na,7\nc,5\nb,1\n' >fl.csv

@@ -16,7 +16,7 @@ use Rattle.rs_events.specs.Events.{Event, Finds, fetches, finds_in}
 use Rattle.rs_events.specs.Run.{Run, lines_run, with_fault}
 use Rattle.rs_events.specs.Running.{HasDone, Ran, Stepped}
 use Rattle.rs_events.specs.Sequence.{Step, run_of, still}
-use Rattle.rs_events.proofs.SteppedFacts.{Stepped-is, Stepped-lines, Stepped-map, Stepped-no_memory, Stepped-still}
+use Rattle.rs_events.proofs.SteppedFacts.{Stepped-lines, Stepped-no_memory, Stepped-still, step_of}
 use Rattle.rs_events.proofs.ToldFacts.{Ran-told_err, Ran-told_ok}
 use Rattle.rs_statement.specs.declared.evaluating.Evaluating.TheVariants.{Plainly}
 use Rattle.rs_statement.specs.declared.fault.Fault.{Fault}
@@ -36,7 +36,7 @@ use Rattle.rs_run.proofs.RunFacts.{statement-faults}
 -- the run of a step whose fault is told as one of words
 run_of-told : {S : Type 0} (step : statement.Step S) → run_of (told_step Statement step) ≡ with_fault Statement (run_of step)
 run_of-told {S} step = go step.outcome where
-  go : (outcome : Result S Fault) → run_of (record { events = step.events; outcome = told_result Statement outcome }) ≡ with_fault Statement (run_of (record { events = step.events; outcome = outcome }))
+  go : (outcome : Result S Fault) → run_of (told_step Statement (step_of step.events outcome)) ≡ with_fault Statement (run_of (step_of step.events outcome))
   go (Ok next) = refl
   go (Err fault) = refl
 
@@ -90,7 +90,7 @@ DoesNext-finds a b more answer state command step does =
 -- a statement, before the one of the next number, behind events that were done: it does what it does over what was there at first
 run_of-counted : (number : ℕ) (step : Step RunFault CatalogDef) → run_of (counted_step number step) ≡ run_of step
 run_of-counted number step = go step.outcome where
-  go : (outcome : Result CatalogDef RunFault) → run_of (counted_step number (record { events = step.events; outcome = outcome })) ≡ run_of (record { events = step.events; outcome = outcome })
+  go : (outcome : Result CatalogDef RunFault) → run_of (counted_step number (step_of step.events outcome)) ≡ run_of (step_of step.events outcome)
   go (Ok next) = refl
   go (Err fault) = refl
 
@@ -111,7 +111,7 @@ Stepped-next made number next catalogue left command result old middle new is_ne
   leaves : (result : Result (Unit {0}) RunFault) → IfOk result (λ done. stepped.step.outcome ≡ Ok left)
       → IfOk result (λ done. (counted_step number stepped.step).outcome ≡ Ok (record { number = next; catalogue = left }))
   leaves (Ok done) is =
-      ap (λ (outcome : Result CatalogDef RunFault). (counted_step number (record { events = stepped.step.events; outcome = outcome })).outcome) is
+      ap (λ (outcome : Result CatalogDef RunFault). (counted_step number (step_of stepped.step.events outcome)).outcome) is
       ∙ ap (λ (n : ℕ). Ok (record { number = n; catalogue = left })) (sym is_next)
   leaves (Err fault) is = tt
 

@@ -1,0 +1,1 @@
+use Rattle.rs_run.proofs.threshold.scan_statement.Goals as goal
