@@ -3,7 +3,7 @@
 # in the same run, sqlite3 reads the same files, joins them and sorts all pairs. There is a key for each hundred rows, so with the most
 # rows there are 13 million pairs.
 # The pairs have to be the same, and the draws those that the definition of the join says: checks/feeds.py reckons them over the
-# finished lists, city by city.
+# finished lists.
 # The time is processor time, the shortest of five runs. Starting the program and reading both files are part of it on both sides; the
 # time of ours with K = 0, which does no more than that, is told beside it.
 # The program is the one that ./ranksql builds, or the one that the variable RANKSQL names.

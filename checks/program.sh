@@ -491,6 +491,27 @@ front="${both}SELECT DISTINCT "
 script "${front}z FROM t ORDER BY p(x);"
 expect 'a column that is not there under ta' 5 '' "script: bind NoColumn at ${#front}"$'\n' -- ta s.sql
 expect 'a seed for ta' 2 '' "$usage"$'\n' -- ta s.sql 1
+
+# ---- two ranked feeds
+printf 'key,score\na,9\nb,8\na,7\nc,5\nb,1\n' >fl.csv
+printf 'key,score\nb,9\na,6\nc,6\na,2\nd,1\n' >fr.csv
+printf 'key,score\nb,9\na,6\nc,7\n' >fr2.csv
+expect 'the first pair of two feeds' 0 $'1,17,b,8,9\nleft=2 right=2\n' '' -- feed fl.csv fr.csv 1
+expect 'two pairs of two feeds' 0 $'1,17,b,8,9\n2,15,a,9,6\nleft=4 right=2\n' '' -- feed fl.csv fr.csv 2
+expect 'all pairs of two feeds' 0 $'1,17,b,8,9\n2,15,a,9,6\n3,13,a,7,6\n4,11,a,9,2\n5,11,c,5,6\n6,10,b,1,9\n7,9,a,7,2\nleft=6 right=6\n' '' -- feed fl.csv fr.csv 9
+expect 'no pair is asked for' 0 $'left=0 right=0\n' '' -- feed fl.csv fr.csv 0
+expect 'a row out of order behind those that are drawn' 0 $'1,17,b,8,9\n2,15,a,9,6\nleft=4 right=2\n' '' -- feed fl.csv fr2.csv 2
+expect 'a row out of order behind two pairs' 6 $'1,17,b,8,9\n2,15,a,9,6\n' $'table: fr2.csv: OutOfOrder row 3 before 6 got 7\n' -- feed fl.csv fr2.csv 9
+printf 'key,score\na,4294967296\n' >high.csv
+expect 'a left score that is too great, before the right file is opened' 7 '' $'score: score rows 1: 4294967296 is not in 0..4294967295\n' -- feed high.csv nope.csv 1
+expect 'a right file that is not there' 3 '' $'read: nope.csv: missing\n' -- feed fl.csv nope.csv 0
+expect 'a feed with another header' 6 '' $'table: h.csv: HeaderDiffers column 1\n' -- feed fl.csv h.csv 1
+expect 'a feed joined with itself' 0 $'1,18,a,9,9\nleft=1 right=1\n' '' -- feed fl.csv fl.csv 1
+expect 'a K beyond 1,000,000' 2 '' "$usage"$'\n' -- feed fl.csv fr.csv 1000001
+(cd "$root" && timeout 60 "$program" feed examples/feeds/restaurants.csv examples/feeds/hotels.csv 5 >"$work/said/out" 2>"$work/said/err" </dev/null)
+echo $? >"$work/said/status"
+text=$(cat "$root/examples/feeds/best.out" && echo .)
+compare 'the guides of the example' 0 "${text%.}" ''
 # The index of the example calls its predicate for each of the 5,000 films. examples/films/README.md counts the other calls. Those under
 # `run` are also what checks/runs.py tells.
 # count NAME WANTED WORD..

@@ -9,8 +9,9 @@ FORMS = {
     "plain": "ranksql plain SCRIPT",
     "gen": "ranksql gen NUMBER ROWS",
     "ta": "ranksql ta SCRIPT",
+    "feed": "ranksql feed LEFT RIGHT K",
 }
-WORDS = {"top": 5, "run": 3, "plain": 2, "gen": 3, "ta": 2}
+WORDS = {"top": 5, "run": 3, "plain": 2, "gen": 3, "ta": 2, "feed": 4}
 
 
 def of_usage(words):
@@ -54,6 +55,7 @@ def of_numbers(word, words):
         "plain": [],
         "gen": [(1, "NUMBER", 0, 4_294_967_295), (2, "ROWS", 1, 2_000)],
         "ta": [],
+        "feed": [(3, "K", 0, 1_000_000)],
     }
     for place, name, least, most in ranges[word]:
         text = words[place]

@@ -75,6 +75,8 @@ def of_table(fault, parser):
     record = found[row]
     if fault.variant == "FieldCount":
         return token, record_lines(fault.name, body, record), of_field_count(fault, body, record, header)
+    if fault.variant == "OutOfOrder":
+        return token, record_lines(fault.name, body, record, 1), of_order(fault)
     column = fault.numbers[1] - 1
     lines = record_lines(fault.name, body, record, column if column < len(record.starts) else None)
     name = statement.columns[column][0].says if statement and column < len(statement.columns) else header[column] if column < len(header) else ""
@@ -235,6 +237,36 @@ def of_top(fault, path, column):
     if number < 0:
         return lines, f"The number {number} in row {row} is below 0, and `top` ranks numbers from 0 to MAX.{reach} For others write a script with a predicate."
     return lines, f"The number {number} in row {row} is above the MAX {most} of the command line.{reach} Give the greatest one as MAX."
+
+
+def of_feed_score(fault, paths):
+    """A number of a feed that is no score. The left file is wholly looked at before the right one."""
+    number, most, row = fault.numbers[:3]
+    lines = []
+    for path in paths:
+        body = read_file(path)
+        found = list_of_records(body) if body is not None else []
+        if row < len(found) and found[row].fields[1:] and is_whole(found[row].fields[1]) and int(found[row].fields[1]) == number:
+            lines = record_lines(path, body, found[row], 1)
+            break
+    return lines, f"The score {number} in row {row} of a feed lies outside 0 to {most:,}. Divide all scores of both feeds by one number, or add one number to all of a feed."
+
+
+def of_feed_header(fault):
+    """A header that isn't that of a feed."""
+    body = read_file(fault.name)
+    found = list_of_records(body) if body is not None else []
+    lines = record_lines(fault.name, body, found[0]) if found else []
+    return lines, "A feed has exactly the columns `key` and `score`, in this order, and its header names them so."
+
+
+def of_order(fault):
+    """A row of a feed that isn't ranked."""
+    row, before, got = fault.numbers[:3]
+    return (
+        f"Row {row} has the score {got}, which is greater than {before}, the score of the row before it. A feed has its greatest scores first:"
+        f" (head -n 1 {fault.name}; tail -n +2 {fault.name} | sort -s -t , -k 2,2nr) >NEW ranks it, where no key has a comma."
+    )
 
 
 # ---- files

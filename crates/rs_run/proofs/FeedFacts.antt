@@ -16,7 +16,7 @@ use Rattle.rs_words.specs.declared.fault.WordFault.TheVariants as word
 use Rattle.rs_words.specs.Faults.{feed_faults}
 use Rattle.rs_words.specs.Feeding.{FeedWords, IsFeedRun}
 use Rattle.rs_words.proofs.RunFacts.{no-calls}
-use Rattle.rs_statement.specs.declared.fault.Fault.TheVariants as fault
+use Rattle.rs_statement.specs.declared.fault.Fault.TheVariants as of_statement
 use Rattle.rs_run.specs.declared.fault.RunFault.{RunFault}
 use Rattle.rs_run.specs.declared.fault.RunFault.TheVariants.{Statement}
 use Rattle.rs_run.specs.Faults.{run_faults}
@@ -39,16 +39,16 @@ module _ (left right : List ℕ) where
   fault-told own NoMemory fault never is = ap (option_map (word_fault left right)) is
   fault-told own (PutFailed part) fault never is = ap (option_map (word_fault left right)) is
   fault-told own (FetchFailed name) fault never is = (word_fault left right is.0, told is.1, ap (option_map (word_fault left right)) is.2) where
-    told : ((name ≡ left) × (is.0 ≡ word.Read 1 fetch.Failed)) ⊎ ((name ≡ right) × (is.0 ≡ word.Read 2 fetch.Failed)) → word_fault left right is.0 ≡ Statement (fault.Read name fetch.Failed)
-    told (inl both) = ap (word_fault left right) both.1 ∙ ap (λ n. Statement (fault.Read n fetch.Failed)) (sym both.0)
-    told (inr both) = ap (word_fault left right) both.1 ∙ ap (λ n. Statement (fault.Read n fetch.Failed)) (sym both.0)
+    told : ((name ≡ left) × (is.0 ≡ word.Read 1 fetch.Failed)) ⊎ ((name ≡ right) × (is.0 ≡ word.Read 2 fetch.Failed)) → word_fault left right is.0 ≡ Statement (of_statement.Read name fetch.Failed)
+    told (inl both) = ap (word_fault left right) both.1 ∙ ap (λ n. Statement (of_statement.Read n fetch.Failed)) (sym both.0)
+    told (inr both) = ap (word_fault left right) both.1 ∙ ap (λ n. Statement (of_statement.Read n fetch.Failed)) (sym both.0)
   fault-told own (CallFailed call) fault never is = absurd (never call refl)
 
   answers-ok : (fault : Option WordFault) → Answers word.Memory fault (Ok tt) → Answers run_faults.memory (option_map (word_fault left right) fault) (Ok tt)
   answers-ok None answers = refl
   answers-ok (Some why) answers = absurd (elim answers [ inl e ↦ cc | inr e ↦ cc ])
 
-  answers-err : (fault : Option WordFault) (why : WordFault) (told : RunFault) → (told ≡ word_fault left right why) ⊎ (told ≡ Statement fault.Memory) → Answers word.Memory fault (Err why)
+  answers-err : (fault : Option WordFault) (why : WordFault) (told : RunFault) → (told ≡ word_fault left right why) ⊎ (told ≡ Statement of_statement.Memory) → Answers word.Memory fault (Err why)
       → Answers run_faults.memory (option_map (word_fault left right) fault) (Err told)
   answers-err None why told is answers = absurd cc
   answers-err (Some own) why told (inr e) answers = inr (ap Err e)
@@ -77,7 +77,7 @@ module _ (finds : Finds) (answer : Answering) (words : FeedWords) (old new : Env
         };
       }
 
-  pub Runs-feed_err : (why : WordFault) (told : RunFault) → (told ≡ word_fault words.left words.right why) ⊎ (told ≡ Statement fault.Memory) → Runs (feed_faults words.left words.right) (IsFeedRun finds words) (Err why) old new
+  pub Runs-feed_err : (why : WordFault) (told : RunFault) → (told ≡ word_fault words.left words.right why) ⊎ (told ≡ Statement of_statement.Memory) → Runs (feed_faults words.left words.right) (IsFeedRun finds words) (Err why) old new
       → Runs run_faults (IsFormRun finds answer (Feed words)) (Err told) old new
   Runs-feed_err why told is made =
       let ran = made.ran in record {
