@@ -7,7 +7,7 @@ use Rattle.rs_expr.specs.InOrder.{Inquires}
 use Rattle.rs_expr.specs.Scoring.{Answering, ScorerState}
 use Rattle.rs_catalog.specs.Catalog.{CatalogDef}
 use Rattle.rs_query.specs.Blocks.{block_in}
-use Rattle.rs_query.specs.Questions.{asking}
+use Rattle.rs_query.specs.Questions.{Question, asking}
 use Rattle.rs_query.specs.Tables.{sizes_of}
 use Rattle.rs_query.specs.Views.{all_rows}
 use Rattle.rs_query.specs.WellFormed.{IsQuery}
@@ -36,7 +36,7 @@ pub record Grown (catalogue : CatalogDef) (old new : ViewDef) (result : Result (
 
 module _ (catalogue : CatalogDef) (old : ViewDef) (before after : ScorerState) (stood : Stands before.answer catalogue old) where
   -- the questions, and the first rows that they lead to
-  abbrev questions : List _
+  abbrev questions : List Question
   questions = fresh_questions catalogue (block_in old.query 1) old.lengths
 
   abbrev first_rows : Answering → List Answer

@@ -117,7 +117,7 @@ module _ (answer : Answering) (catalogue : CatalogDef) (block : Block) (all : bl
         ap (λ (r : Answer). has_new_row old r.ids.rows) first.image ∙ old-no_new catalogue block old first.source first.is_in in
         let new : has_new_row old y.ids.rows ≡ true =
         ap (λ (r : Answer). has_new_row old r.ids.rows) second.image ∙ fresh-new catalogue block old second.source second.is_in in
-        false≢true (sym none ∙ ap (has_new_row old) parts.1 ∙ new)
+        false≢true (sym none ∙ ap (has_new_row old) parts.2 ∙ new)
 
     module _ (is : IsBlock catalogue block) (six : length old ≡ 6) (within : IsSizes catalogue block old) where
       -- the rows of all are the old ones and the fresh ones

@@ -14,7 +14,16 @@ pub grow-requires : goal.grow-requires
 grow-requires g c = Stands-none (g.S.Scorer.state c.args.scorer.now).answer c.args.catalog.now c.args.query c.new.result.items c.new.ensures.items c.requires.query c.requires.keepable
 
 pub returns-in_err-grow : goal.returns-in_err-grow
-returns-in_err-grow g c = ?
+returns-in_err-grow g c =
+    let before = g.S.Scorer.state c.args.scorer.now in
+    let after = g.S.Scorer.state c.grow.new.scorer in
+    let is = given-err c.from_residual.result c.in_err-grow.field-0.0 c.from_residual.ensures in
+    record {
+      makes = subst (λ r. Inquires Memory (making before.answer c.args.catalog.now c.args.query) r before after) (sym is)
+          (Makes-grown c.args.catalog.now c.args.query c.new.result.items _ before after c.requires.query c.requires.keepable c.in_err-grow.ensures.grows);
+      stands = subst (λ r. IfOk r (Stands after.answer c.args.catalog.now)) (sym is) tt;
+      names = subst (λ r. IfErr r (NamesCalled c.args.catalog.now c.args.query)) (sym is) c.in_err-grow.ensures.names;
+    }
 
 pub returns : goal.returns
 returns g c =
