@@ -29,10 +29,10 @@ returns-in_err-more g c =
     let before = g.S.Scorer.state c.args.scorer.now in
     let after = g.S.Scorer.state c.fresh_rows.new.scorer in
     let stood = subst (Stands before.answer c.args.catalog.now) (sym c.self.view_is) c.requires in
-    let many : c.most-most.result ≡ most_kept c.self.inside.query = first_of (c.most-most.ensures, c.most-most.ensures ∙ ap (λ (v : ViewDef). most_kept v.query) (sym c.self.view_is)) in
-    let done = subst (λ (v : ViewDef). Grown c.args.catalog.now v old c.from_residual.result before after) c.self.view_is
-    (Grown-failed c.args.catalog.now old before after stood old c.from_residual.result c.in_err-more.field-0.0
-    (given-err c.from_residual.result c.in_err-more.field-0.0 c.from_residual.ensures) refl
+    let many : c.most-most.result ≡ most_kept c.self.inside.query = first_of (cc (c.most-most.ensures), cc (c.most-most.ensures, ap (λ (v : ViewDef). most_kept v.query) (sym c.self.view_is))) in
+    let done = subst (λ (v : ViewDef). Grown c.args.catalog.now v c.args.self.now c.from_residual.result before after) c.self.view_is
+    (Grown-failed c.args.catalog.now old before after stood c.args.self.now c.from_residual.result c.in_err-more.field-0.0
+    (given-err c.from_residual.result c.in_err-more.field-0.0 c.from_residual.ensures) (sym c.self.view_is)
     (Asks-seen c.args.catalog.now old before after stood c.current-catalog.result c.most-most.result _ c.current-catalog.ensures many c.in_err-more.ensures)) in
     record { grows = done.grows; ok = done.ok; err = done.err; stands = done.stands; names = done.names }
 
@@ -43,7 +43,7 @@ returns-in_err-keep_first g c =
     let before = g.S.Scorer.state c.args.scorer.now in
     let after = g.S.Scorer.state c.fresh_rows.new.scorer in
     let stood = subst (Stands before.answer c.args.catalog.now) (sym c.self.view_is) c.requires in
-    let many : c.most-most.result ≡ most_kept c.self.inside.query = first_of (c.most-most.ensures, c.most-most.ensures ∙ ap (λ (v : ViewDef). most_kept v.query) (sym c.self.view_is)) in
+    let many : c.most-most.result ≡ most_kept c.self.inside.query = first_of (cc (c.most-most.ensures), cc (c.most-most.ensures, ap (λ (v : ViewDef). most_kept v.query) (sym c.self.view_is))) in
     let done = subst (λ (v : ViewDef). Grown c.args.catalog.now v new c.from_residual-in_err-keep_first.result before after) c.self.view_is
     (Grown-stopped c.args.catalog.now old before after stood new c.from_residual-in_err-keep_first.result c.in_ok-more.more.items
     (given-err c.from_residual-in_err-keep_first.result Memory c.from_residual-in_err-keep_first.ensures)
@@ -58,7 +58,7 @@ returns g c =
     let before = g.S.Scorer.state c.args.scorer.now in
     let after = g.S.Scorer.state c.fresh_rows.new.scorer in
     let stood = subst (Stands before.answer c.args.catalog.now) (sym c.self.view_is) c.requires in
-    let many : c.most-most.result ≡ most_kept c.self.inside.query = first_of (c.most-most.ensures, c.most-most.ensures ∙ ap (λ (v : ViewDef). most_kept v.query) (sym c.self.view_is)) in
+    let many : c.most-most.result ≡ most_kept c.self.inside.query = first_of (cc (c.most-most.ensures), cc (c.most-most.ensures, ap (λ (v : ViewDef). most_kept v.query) (sym c.self.view_is))) in
     let done = subst (λ (v : ViewDef). Grown c.args.catalog.now v new (Ok tt) before after) c.self.view_is
     (Grown-done c.args.catalog.now old before after stood new c.in_ok-more.more.items c.self.invariant refl
     (c.sizes_of-lengths.ensures.value ∙ ap (λ (seen : CatalogDef). sizes_of seen c.block_in.result.now) c.current-catalog.ensures ∙ ap (sizes_of c.args.catalog.now) c.block_in.ensures)
