@@ -1,8 +1,8 @@
 -- The first items of two lists, of which what is behind the first ones of each is left out.
-use Rattle.std.proofs.Common.{ℕ, zero, suc, ◌≡◌, ◌∙◌, ◌+◌, ◌<◌, ◌⊎◌, ◌++◌, Bool, true, false, List, [], ◌∷◌, length, get_or, take, refl, sym, ap, subst, inl, inr, arith}
+use Rattle.std.proofs.Common.{ℕ, zero, suc, ◌≡◌, ◌∙◌, ◌+◌, ◌⊎◌, Bool, false, List, [], ◌∷◌, get_or, take, refl, sym, ap, subst, inl, inr, arith}
 use Rattle.std.specs.Prelude.{◌↔◌}
 use Rattle.std.specs.Cmp.{IsTotalOrder}
-use Rattle.std.specs.List.{AllByRecursion, IsDistinct}
+use Rattle.std.specs.List.{IsDistinct}
 use Rattle.std.specs.List.Sorted.{IsPermutation, IsSortedByKey, IsStrictlySortedBy}
 use Rattle.std.specs.Ordering.{is_eq, is_lt, ordering_reverse}
 use Rattle.std.specs.declared.cmp.Ordering.{Ordering}
@@ -43,8 +43,7 @@ module _ {X K : Type 0} (cmp : K → K → Ordering) (o : IsTotalOrder cmp) (key
   beyond-more (suc n) [] all z c d f h = absurd h
   beyond-more (suc n) (s ∷ some) [] z c d f h = absurd (f s (inl refl))
   beyond-more (suc n) (s ∷ some) (p ∷ all) z c d f h =
-      let first : (s ≡ p) ⊎ Precedes cmp key p s = elim (f s (inl refl)) [ inl e ↦ inl e | inr k ↦ inr (AllByRecursion-In (Precedes cmp key p) all d.0 s k) ] in
-      (
+      let first : (s ≡ p) ⊎ Precedes cmp key p s = elim (f s (inl refl)) [ inl e ↦ inl e | inr k ↦ inr (AllByRecursion-In (Precedes cmp key p) all d.0 s k) ] in (
         elim first [ inl e ↦ subst (λ w. Precedes cmp key w z) e h.0 | inr before ↦ o.trans (key p) (key s) (key z) before h.0 ],
         beyond-more n some all z c.1 d.1 (λ x k. past p s x all first (AllByRecursion-In (Precedes cmp key s) some c.0 x k) (f x (inr k))) h.1,
       )

@@ -1,18 +1,14 @@
 -- The first rows of what a view has and of what fresh combinations make are the first rows of the answer.
-use Rattle.std.proofs.Common.{ℕ, zero, suc, ◌≡◌, ◌∙◌, ◌+◌, ◌⊎◌, ◌++◌, Bool, true, false, cond, List, [], ◌∷◌, length, map, take, refl, sym, ap, subst, inl, inr, arith}
+use Rattle.std.proofs.Common.{ℕ, zero, suc, ◌≡◌, ◌∙◌, ◌⊎◌, ◌++◌, Bool, true, false, cond, List, [], ◌∷◌, length, map, take, refl, sym, ap, subst, inl, inr, arith}
 use Rattle.std.specs.Prelude.{◌↔◌, Option, Some, None, unwrap_or}
-use Rattle.std.specs.Cmp.Lexicographic.{slice_cmp}
 use Rattle.std.specs.List.{AllByRecursion, filter}
 use Rattle.std.specs.Ordering.{flip_args, nat_cmp}
-use Rattle.std.specs.declared.cmp.Ordering.{Ordering}
-use Rattle.std.specs.declared.cmp.Ordering.TheVariants.{Less, Equal}
-use Rattle.std.specs.List.Sorted.{IsPermutation}
 use Rattle.std.proofs.lemmas.Bool.{false≢true}
 use Rattle.std.proofs.lemmas.List.{take-take}
 use Rattle.std.proofs.lemmas.List.Sorted.{IsPermutation-sym}
 use Rattle.rs_order.specs.Climbing.{Climbs, Differs, HasDistinctKeys, In, Precedes}
 use Rattle.rs_order.proofs.EachFacts.{each-append, each-weaker}
-use Rattle.rs_order.proofs.ClimbingFacts.{AllByRecursion-In, AllByRecursion-from_In}
+use Rattle.rs_order.proofs.ClimbingFacts.{AllByRecursion-from_In}
 use Rattle.rs_order.proofs.ItemFacts.{Climbs-filter, In-append, In-left, In-map, In-map-back, In-right}
 use Rattle.rs_order.proofs.PartFacts.{Climbs-take, In-take}
 use Rattle.rs_order.proofs.SortingFacts.{In-sorted, In-sorted-back}

@@ -1,7 +1,6 @@
 -- The combinations of all rows are those of an old view and the fresh ones.
-use Rattle.std.proofs.Common.{ℕ, zero, suc, ◌≡◌, ◌∙◌, ◌+◌, ◌-◌, ◌/◌, ◌%◌, ◌<◌, ◌≤◌, ◌⊎◌, ◌||◌, Bool, true, false, eqb, nat_lt, List, [], ◌∷◌, length, get_or, replicate, refl, sym, ap, ap₂, subst, inl, inr, arith}
+use Rattle.std.proofs.Common.{ℕ, zero, suc, ◌≡◌, ◌∙◌, ◌-◌, ◌/◌, ◌%◌, ◌≤◌, ◌⊎◌, ◌||◌, Bool, true, false, eqb, nat_lt, List, [], ◌∷◌, length, get_or, replicate, refl, sym, ap, ap₂, subst, inl, inr, arith}
 use Rattle.std.specs.Int.{bit_at}
-use Rattle.std.specs.List.{filter}
 use Rattle.std.proofs.lemmas.Bool.{cases_lt, false≢true, le-ltb, ltb-false, or_parts, true≢false}
 use Rattle.std.proofs.lemmas.Nat.Bits.{bit_at-suc, bit_at_lowest, bit_at_ones_above}
 use Rattle.std.proofs.lemmas.Option.{unwrap_or-slice_get}

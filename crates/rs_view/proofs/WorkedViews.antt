@@ -39,7 +39,10 @@ with_houses more = record {
     };
   } ∷ [];
   predicates = record {
-    name = codes "near"; params = kind.Int ∷ kind.Int ∷ []; max = 100; cost = 1;
+    name = codes "near";
+    params = kind.Int ∷ kind.Int ∷ [];
+    max = 100;
+    cost = 1;
     formula = Difference (Constant (pos 100)) (Magnitude (Difference (Argument 0) (Argument 1)));
   } ∷ [];
   indexes = [];

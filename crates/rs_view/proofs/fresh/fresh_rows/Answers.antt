@@ -1,4 +1,4 @@
-use Rattle.std.proofs.Common.{ℕ, List, ◌∙◌, [], map, take, refl, sym, ap, subst, append-nil}
+use Rattle.std.proofs.Common.{List, ◌∙◌, [], map, take, refl, sym, ap, subst, append-nil}
 use Rattle.std.specs.List.{AllByRecursion}
 use Rattle.rs_rank.specs.Stable.{stable}
 use Rattle.rs_rank.specs.declared.answer.Answer.{Answer}
@@ -13,8 +13,8 @@ use Rattle.rs_plain.specs.Keeping.{IsWhole, answer_for}
 use Rattle.rs_plain.specs.Plain.{plain_faults}
 use Rattle.rs_plain.specs.declared.fault.PlainFault.TheVariants.{Memory}
 use Rattle.rs_plain.proofs.RowFacts.{given-items}
-use Rattle.rs_view.specs.Fresh.{fresh, fresh_questions, fresh_rows}
-use Rattle.rs_view.proofs.FirstFacts.{answers-first, first_scored, scored-found, scored_fresh, whole-first}
+use Rattle.rs_view.specs.Fresh.{fresh_questions}
+use Rattle.rs_view.proofs.FirstFacts.{answers-first, scored-found, scored_fresh, whole-first}
 use Rattle.rs_view.proofs.fresh.fresh_rows.Goals as goal
 
 pub fresh-requires : goal.fresh-requires

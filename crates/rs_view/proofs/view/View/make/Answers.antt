@@ -1,12 +1,11 @@
-use Rattle.std.proofs.Common.{sym, ap, subst}
-use Rattle.std.specs.Prelude.{Result, Ok, Err, IfErr, IfOk}
+use Rattle.std.proofs.Common.{sym, subst}
+use Rattle.std.specs.Prelude.{IfErr, IfOk}
 use Rattle.rs_expr.specs.InOrder.{Inquires}
 use Rattle.rs_plain.specs.Results.{NamesCalled}
-use Rattle.rs_plain.specs.declared.fault.PlainFault.{PlainFault}
 use Rattle.rs_plain.specs.declared.fault.PlainFault.TheVariants.{Memory}
 use Rattle.rs_value.proofs.ResultFacts.{given-err}
 use Rattle.rs_view.specs.Fresh.{making}
-use Rattle.rs_view.specs.Views.{Stands, ViewDef}
+use Rattle.rs_view.specs.Views.{Stands}
 use Rattle.rs_view.proofs.GrowFacts.{Makes-grown, Stands-none}
 use Rattle.rs_view.proofs.view.View.make.Goals as goal
 
