@@ -1,8 +1,7 @@
 -- The questions of a growth: which predicates they call, and that there are none where nothing is new.
-use Rattle.std.proofs.Common.{ℕ, ◌≡◌, ◌∙◌, List, [], length, map, replicate, refl, sym, ap, subst}
-use Rattle.std.specs.Prelude.{Result, Ok, Err, IfErr}
+use Rattle.std.proofs.Common.{ℕ, ◌≡◌, ◌∙◌, List, [], map, ap}
+use Rattle.std.specs.Prelude.{Err}
 use Rattle.std.specs.List.{AllByRecursion, flat_map}
-use Rattle.rs_order.specs.Climbing.{In}
 use Rattle.rs_order.proofs.EachFacts.{each-map}
 use Rattle.rs_order.proofs.ItemFacts.{filter-none}
 use Rattle.rs_expr.specs.InOrder.{Inquires}
@@ -15,7 +14,6 @@ use Rattle.rs_query.specs.Questions.{asking, is_bad, through_first, request_for,
 use Rattle.rs_query.specs.Tables.{sizes_of}
 use Rattle.rs_query.specs.Views.{all_rows}
 use Rattle.rs_query.specs.WellFormed.{IsQuery}
-use Rattle.rs_query.specs.declared.block.Block.{Block}
 use Rattle.rs_query.specs.declared.query.Query.{Query}
 use Rattle.rs_query.specs.declared.query.Query.TheVariants.{One, Set}
 use Rattle.rs_query.proofs.FreshFacts.{fresh-all}

@@ -1,5 +1,5 @@
 -- The first rows that fresh combinations make, from their scores.
-use Rattle.std.proofs.Common.{ℕ, zero, suc, ◌≡◌, ◌∙◌, ◌≤◌, List, [], ◌∷◌, map, take, refl, ap, subst}
+use Rattle.std.proofs.Common.{ℕ, zero, suc, ◌≡◌, ◌∙◌, List, [], ◌∷◌, map, take, refl, ap, subst}
 use Rattle.std.specs.Prelude.{Result}
 use Rattle.std.specs.List.{AllByRecursion, flat_map}
 use Rattle.rs_order.proofs.EachFacts.{each-map, each-take, each-weaker}
@@ -10,7 +10,6 @@ use Rattle.rs_rank.proofs.StableFacts.{AllByRecursion-stable, stable-map}
 use Rattle.rs_expr.specs.InOrder.{Inquires}
 use Rattle.rs_expr.specs.Scoring.{Answering, ScorerState}
 use Rattle.rs_catalog.specs.Catalog.{CatalogDef}
-use Rattle.rs_query.specs.Answers.{answer_row}
 use Rattle.rs_query.specs.Questions.{asking}
 use Rattle.rs_query.specs.Tables.{HasRows, all_entries}
 use Rattle.rs_query.specs.WellFormed.{IsBlock}

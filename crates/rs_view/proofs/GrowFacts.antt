@@ -1,19 +1,17 @@
 -- What a growth does, from what its parts do.
 use Rattle.std.proofs.Common.{ℕ, ◌≡◌, ◌∙◌, List, [], ◌++◌, length, take, refl, sym, ap, subst, append-nil}
 use Rattle.std.specs.Prelude.{Result, Ok, Err, IfErr, OnErr, OnOk}
-use Rattle.rs_rank.specs.Stable.{stable}
 use Rattle.rs_rank.specs.declared.answer.Answer.{Answer}
 use Rattle.rs_expr.specs.InOrder.{Inquires}
 use Rattle.rs_expr.specs.Scoring.{Answering, ScorerState}
 use Rattle.rs_catalog.specs.Catalog.{CatalogDef}
 use Rattle.rs_query.specs.Blocks.{block_in}
-use Rattle.rs_query.specs.Questions.{asking}
+use Rattle.rs_query.specs.Questions.{Question, asking}
 use Rattle.rs_query.specs.Tables.{sizes_of}
-use Rattle.rs_query.specs.Views.{all_rows}
 use Rattle.rs_query.specs.WellFormed.{IsQuery}
 use Rattle.rs_query.specs.declared.query.Query.{Query}
-use Rattle.rs_query.proofs.QuestionFacts.{AllAsked, AllAsked-none, Ended-behind, Failed-behind, Gave-ok, Stopped-behind}
-use Rattle.rs_plain.specs.Plain.{plain_faults, questions_of}
+use Rattle.rs_query.proofs.QuestionFacts.{AllAsked-none, Ended-behind, Failed-behind, Gave-ok, Stopped-behind}
+use Rattle.rs_plain.specs.Plain.{plain_faults}
 use Rattle.rs_plain.specs.Results.{NamesCalled}
 use Rattle.rs_plain.specs.declared.fault.PlainFault.{PlainFault}
 use Rattle.rs_plain.specs.declared.fault.PlainFault.TheVariants.{Memory}
@@ -36,7 +34,7 @@ pub record Grown (catalogue : CatalogDef) (old new : ViewDef) (result : Result (
 
 module _ (catalogue : CatalogDef) (old : ViewDef) (before after : ScorerState) (stood : Stands before.answer catalogue old) where
   -- the questions, and the first rows that they lead to
-  abbrev questions : List _
+  abbrev questions : List Question
   questions = fresh_questions catalogue (block_in old.query 1) old.lengths
 
   abbrev first_rows : Answering → List Answer

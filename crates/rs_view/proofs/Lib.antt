@@ -1,3 +1,4 @@
+mod WorkedViews
 pub mod CallFacts
 pub mod FirstFacts
 pub mod GrowFacts

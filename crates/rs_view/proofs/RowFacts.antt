@@ -1,18 +1,14 @@
 -- The first rows of what a view has and of what fresh combinations make are the first rows of the answer.
-use Rattle.std.proofs.Common.{ℕ, zero, suc, ◌≡◌, ◌∙◌, ◌+◌, ◌⊎◌, ◌++◌, Bool, true, false, cond, List, [], ◌∷◌, length, map, take, refl, sym, ap, subst, inl, inr, arith}
+use Rattle.std.proofs.Common.{ℕ, zero, suc, ◌≡◌, ◌∙◌, ◌⊎◌, ◌++◌, Bool, true, false, cond, List, [], ◌∷◌, length, map, take, refl, sym, ap, subst, inl, inr, arith}
 use Rattle.std.specs.Prelude.{◌↔◌, Option, Some, None, unwrap_or}
-use Rattle.std.specs.Cmp.Lexicographic.{slice_cmp}
 use Rattle.std.specs.List.{AllByRecursion, filter}
 use Rattle.std.specs.Ordering.{flip_args, nat_cmp}
-use Rattle.std.specs.declared.cmp.Ordering.{Ordering}
-use Rattle.std.specs.declared.cmp.Ordering.TheVariants.{Less, Equal}
-use Rattle.std.specs.List.Sorted.{IsPermutation}
 use Rattle.std.proofs.lemmas.Bool.{false≢true}
 use Rattle.std.proofs.lemmas.List.{take-take}
 use Rattle.std.proofs.lemmas.List.Sorted.{IsPermutation-sym}
 use Rattle.rs_order.specs.Climbing.{Climbs, Differs, HasDistinctKeys, In, Precedes}
 use Rattle.rs_order.proofs.EachFacts.{each-append, each-weaker}
-use Rattle.rs_order.proofs.ClimbingFacts.{AllByRecursion-In, AllByRecursion-from_In}
+use Rattle.rs_order.proofs.ClimbingFacts.{AllByRecursion-from_In}
 use Rattle.rs_order.proofs.ItemFacts.{Climbs-filter, In-append, In-left, In-map, In-map-back, In-right}
 use Rattle.rs_order.proofs.PartFacts.{Climbs-take, In-take}
 use Rattle.rs_order.proofs.SortingFacts.{In-sorted, In-sorted-back}
@@ -117,7 +113,7 @@ module _ (answer : Answering) (catalogue : CatalogDef) (block : Block) (all : bl
         ap (λ (r : Answer). has_new_row old r.ids.rows) first.image ∙ old-no_new catalogue block old first.source first.is_in in
         let new : has_new_row old y.ids.rows ≡ true =
         ap (λ (r : Answer). has_new_row old r.ids.rows) second.image ∙ fresh-new catalogue block old second.source second.is_in in
-        false≢true (sym none ∙ ap (has_new_row old) parts.1 ∙ new)
+        false≢true (sym none ∙ ap (has_new_row old) parts.2 ∙ new)
 
     module _ (is : IsBlock catalogue block) (six : length old ≡ 6) (within : IsSizes catalogue block old) where
       -- the rows of all are the old ones and the fresh ones

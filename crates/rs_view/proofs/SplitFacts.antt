@@ -1,8 +1,7 @@
 -- The combinations of all rows are those of an old view and the fresh ones.
-use Rattle.std.proofs.Common.{ℕ, zero, suc, ◌≡◌, ◌∙◌, ◌+◌, ◌-◌, ◌/◌, ◌%◌, ◌<◌, ◌≤◌, ◌⊎◌, ◌||◌, Bool, true, false, eqb, nat_lt, List, [], ◌∷◌, length, get_or, replicate, refl, sym, ap, ap₂, subst, inl, inr, arith}
+use Rattle.std.proofs.Common.{ℕ, zero, suc, ◌≡◌, ◌∙◌, ◌-◌, ◌/◌, ◌%◌, ◌≤◌, ◌⊎◌, ◌||◌, Bool, true, false, eqb, nat_lt, List, [], ◌∷◌, length, get_or, replicate, refl, sym, ap, ap₂, subst, inl, inr, arith}
 use Rattle.std.specs.Int.{bit_at}
-use Rattle.std.specs.List.{filter}
-use Rattle.std.proofs.lemmas.Bool.{cases_lt, false≢true, le-ltb, ltb-false, or_parts}
+use Rattle.std.proofs.lemmas.Bool.{cases_lt, false≢true, le-ltb, ltb-false, or_parts, true≢false}
 use Rattle.std.proofs.lemmas.Nat.Bits.{bit_at-suc, bit_at_lowest, bit_at_ones_above}
 use Rattle.std.proofs.lemmas.Option.{unwrap_or-slice_get}
 use Rattle.rs_order.specs.Climbing.{In}
@@ -37,7 +36,7 @@ number-most false size row is = is.1
 low-bit : (mask : ℕ) → eqb (mask % 2) 0 ≡ false → bit_at mask 0 ≡ 1
 low-bit mask e = bit_at_lowest mask ∙ (let odd = eqb-odd (mask % 2) e in omega arith) where
   eqb-odd : (n : ℕ) → eqb n 0 ≡ false → 1 ≤ n
-  eqb-odd zero e = cc
+  eqb-odd zero e = absurd (true≢false e)
   eqb-odd (suc n) e = omega arith
 
 -- a choice of all rows without a new one is one of the old rows
@@ -98,7 +97,8 @@ module _ (catalogue : CatalogDef) (block : Block) (old : List ℕ) where
     fewer i bit few = elim (cases_lt i (length block.from)) [
       | inl inside ↦
           let each = within.each (suc i) (omega arith) (omega arith) in
-          let old_at : row_number old (suc i) ≡ get_or old i 0 = unwrap_or-slice_get old i 0 in
+          let place : suc i - 1 ≡ i = omega arith in
+          let old_at : row_number old (suc i) ≡ get_or old i 0 = unwrap_or-slice_get old (suc i - 1) 0 ∙ ap (λ j. get_or old j 0) place in
           let size_at : get_or (sizes_of catalogue block) i 0 ≡ size_of catalogue block (suc i) = get_or-sizes_of catalogue block i (omega arith) in
           omega arith
       | inr beyond ↦ let none = bit_at_ones_above (length block.from) i beyond in absurd (omega arith)
@@ -121,7 +121,7 @@ no-items (x ∷ xs) none = absurd (none x (inl refl))
 abbrev pub no_lengths : List ℕ
 no_lengths = replicate 6 0
 
-get_or-zeros : (n i : ℕ) → get_or (replicate n 0) i 0 ≡ 0
+get_or-zeros : (n i : ℕ) → ◌≡◌ {A = ℕ} (get_or (replicate n 0) i 0) 0
 get_or-zeros zero i = refl
 get_or-zeros (suc n) zero = refl
 get_or-zeros (suc n) (suc i) = get_or-zeros n i

@@ -1,7 +1,5 @@
 -- When views stand: as their catalogue grows, over all rows, and over no rows.
-use Rattle.std.proofs.Common.{ℕ, ◌≡◌, ◌∙◌, ◌≤◌, List, [], take, map, replicate, refl, sym, ap, subst}
-use Rattle.std.specs.Prelude.{Option, Some, None, unwrap_or}
-use Rattle.rs_rank.specs.declared.answer.Answer.{Answer}
+use Rattle.std.proofs.Common.{ℕ, ◌∙◌, List, [], take, refl, sym, ap}
 use Rattle.rs_expr.specs.Scoring.{Answering}
 use Rattle.rs_catalog.specs.Catalog.{CatalogDef}
 use Rattle.rs_query.specs.Blocks.{block_in}
@@ -13,7 +11,7 @@ use Rattle.rs_query.specs.declared.query.Query.TheVariants.{One, Set}
 use Rattle.rs_query.proofs.BlockFacts.{block-formed}
 use Rattle.rs_query.proofs.GrownAnswerFacts.{answer_of-grows}
 use Rattle.rs_query.proofs.GrowthFacts.{IsSizes-all, query-grows, view-grows}
-use Rattle.rs_view.specs.Views.{IsKeepable, Stands, ViewDef, kept_rows, most_kept, view_of}
+use Rattle.rs_view.specs.Views.{IsKeepable, Stands, ViewDef, most_kept, view_of}
 
 -- the lengths of a view of one block are a view of its query
 view-sizes : (catalogue : CatalogDef) (query : Query) (lengths : List ℕ) → IsKeepable query → IsSizes catalogue (block_in query 1) lengths

@@ -6,8 +6,10 @@
 
 mod fresh;
 mod keep;
+mod keepable;
 mod laws;
 mod view;
 
+pub use keepable::is_keepable;
 pub use laws::{nothing_new_asks_nothing, views_go_on_to_stand};
 pub use view::View;
