@@ -84,11 +84,7 @@ pub(crate) fn entry_of(alloc: Global, fields: &ByteRecord) -> Result<Option<Entr
 }
 
 /// What two fields say of a side.
-fn side_entry_of(
-    alloc: Global,
-    first: &[u8],
-    second: &[u8],
-) -> Result<Option<SideEntry>, Memory>
+fn side_entry_of(alloc: Global, first: &[u8], second: &[u8]) -> Result<Option<SideEntry>, Memory>
     ensures { IfOk result (λ entry. entry ≡ side_entry_of first.now second.now) }
 {
     if says_end(first, second) {

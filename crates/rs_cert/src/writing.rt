@@ -51,7 +51,11 @@ impl WrittenRecords {
         ensures { OnOk result (self.new.text.items ≡ self.old.text.items ++ text_of (wanted_record wanted ∷ [])) }
     {
         let mut digits = Buffer::new();
-        self.put(b"cert".as_slice(), b"1".as_slice(), digits.format(wanted).as_bytes())
+        self.put(
+            b"cert".as_slice(),
+            b"1".as_slice(),
+            digits.format(wanted).as_bytes(),
+        )
     }
 
     /// Writes the records of a side with this name.

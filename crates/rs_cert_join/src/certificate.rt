@@ -13,12 +13,7 @@ use rs_value::{List, Memory};
 use std::alloc::Global;
 
 /// The certificate of these pairs, by the numbers of their rows, with the rows that a join drew. It copies them.
-pub fn cert_of(
-    alloc: Global,
-    join: &FeedJoin,
-    k: u32,
-    pairs: &[(u32, u32)],
-) -> Result<Cert, Memory>
+pub fn cert_of(alloc: Global, join: &FeedJoin, k: u32, pairs: &[(u32, u32)]) -> Result<Cert, Memory>
     ensures { IfOk result (λ cert. cert ≡ cert_of join.now k pairs.now) }
 {
     let left = side_of(alloc, join, 1)?;

@@ -9,8 +9,7 @@ use std::test::Fail;
 
 const FIRST: &[u8] = b"cert,1,1\nleft,9,a\nleft,8,b\nright,9,b\nright,6,a\npair,2,1\n";
 
-const WHOLE: &[u8] =
-    b"cert,1,3\nleft,7,a\nleft,end,end\nright,5,a\nright,end,end\npair,1,1\n";
+const WHOLE: &[u8] = b"cert,1,3\nleft,7,a\nleft,end,end\nright,5,a\nright,end,end\npair,1,1\n";
 
 // The kinds of answers: the verdicts in their order, and last that the bytes are no certificate.
 const FORM: usize = 6;
