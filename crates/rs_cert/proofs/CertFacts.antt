@@ -1,5 +1,5 @@
 -- The records of a certificate are read one by one, up to the first one with which no certificate begins.
-use Rattle.std.proofs.Common.{◌≡◌, ◌⊎◌, ℕ, zero, suc, ◌+◌, ◌≤◌, ◌<◌, List, [], ◌∷◌, ◌++◌, length, map, take, drop, Option, Some, None, Result, Ok, Err, codes, refl, sym, ap, ◌∙◌, subst, inl, inr, arith, append_assoc}
+use Rattle.std.proofs.Common.{◌≡◌, ◌⊎◌, ℕ, zero, suc, ◌+◌, ◌≤◌, ◌<◌, List, [], ◌∷◌, ◌++◌, length, map, take, drop, Option, Some, None, Result, Ok, Err, codes, refl, sym, ap, ◌∙◌, subst, inl, inr, arith}
 use Rattle.std.proofs.lemmas.List.{take-append-drop, take-take}
 use Rattle.rs_value.specs.Results.{◌>>=◌}
 use Rattle.rs_cert.specs.declared.cert.Cert.{Cert}
@@ -8,8 +8,8 @@ use Rattle.rs_cert.specs.declared.fault.CertFault.{CertFault}
 use Rattle.rs_cert.specs.declared.fault.CertFault.TheVariants.{Form, Memory}
 use Rattle.rs_cert.specs.Csv.{Fields}
 use Rattle.rs_cert.specs.Growing.{cert_of, new_cert, next_cert, or_form, with_record, with_records}
-use Rattle.rs_cert.specs.Records.{AreRecordsOf, Begin, HasFewRows, IsFirstStrange, IsForm, IsRead, entries_of, entry_of, wanted_of}
-use Rattle.rs_cert.proofs.GrowFacts.{CertMore, grown, grown-all, grown-more, none-some, some-same}
+use Rattle.rs_cert.specs.Records.{AreRecordsOf, Begin, IsFirstStrange, IsRead, entries_of, entry_of, wanted_of}
+use Rattle.rs_cert.proofs.GrowFacts.{grown, grown-all, grown-more, none-some, some-same}
 
 -- what is refused is not answered
 err-ok : {A E B : Type 0} (fault : E) (x : A) → Err fault ≡ Ok x → B

@@ -1,12 +1,11 @@
 -- The records of some certificates, computed.
-use Rattle.std.proofs.Common.{◌≡◌, ◌∷◌, ◌++◌, [], List, ℕ, Bool, true, false, Some, None, Ok, Err, codes, refl}
+use Rattle.std.proofs.Common.{◌≡◌, ◌∷◌, [], List, ℕ, Bool, true, false, Some, None, Ok, Err, codes, refl}
 use Rattle.csv.proofs.OnLiterals.{csv_on_literals}
-use Rattle.rs_cert.specs.declared.cert.Cert.{Cert}
 use Rattle.rs_cert.specs.declared.cert.CertSide.{CertSide}
 use Rattle.rs_cert.specs.declared.entry.Entry.TheVariants.{OfLeft, OfRight, OfPair}
 use Rattle.rs_cert.specs.declared.entry.SideEntry.TheVariants.{Row, End}
 use Rattle.rs_cert.specs.declared.fault.CertFault.TheVariants.{Form}
-use Rattle.rs_cert.specs.Csv.{Fields, records_of}
+use Rattle.rs_cert.specs.Csv.{records_of}
 use Rattle.rs_cert.specs.Growing.{cert_of}
 use Rattle.rs_cert.specs.Records.{entry_of, wanted_of}
 use Rattle.rs_feed.specs.declared.feed_row.FeedRow.{FeedRow}

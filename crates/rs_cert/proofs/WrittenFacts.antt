@@ -1,11 +1,11 @@
 -- What is written of a certificate is read back.
-use Rattle.std.proofs.Common.{◌≡◌, ℕ, ◌+◌, ◌≤◌, ◌<◌, ◌&&◌, pos, Bool, true, false, cond, List, [], ◌∷◌, ◌++◌, codes, get_or, length, map, take, Option, Some, None, option_map, refl, sym, ap, ap₂, ◌∙◌, subst, arith, append_assoc}
+use Rattle.std.proofs.Common.{◌≡◌, ℕ, ◌+◌, ◌≤◌, ◌<◌, pos, Bool, true, false, cond, List, [], ◌∷◌, ◌++◌, codes, get_or, length, map, take, Some, None, option_map, refl, sym, ap, ap₂, ◌∙◌, subst, arith, append_assoc}
 use Rattle.std.proofs.lemmas.List.{append-nil, map-append, take_more}
 use Rattle.std.proofs.lemmas.List.Concat.{flat_map-append}
 use Rattle.std.specs.Cmp.Lexicographic.{bytes_decides}
 use Rattle.std.specs.Fmt.{decimal}
-use Rattle.std.specs.List.{AllByRecursion, flat_map}
-use Rattle.std.specs.Str.{bytes_eq, is_utf8}
+use Rattle.std.specs.List.{AllByRecursion}
+use Rattle.std.specs.Str.{bytes_eq}
 use Rattle.csv.specs.Reading.{default_config, records, strip_bom}
 use Rattle.csv.specs.Writing.{default_writer, read_back, row_text}
 use Rattle.rs_feed.specs.declared.feed_row.FeedRow.{FeedRow}
@@ -18,7 +18,7 @@ use Rattle.rs_cert.specs.declared.entry.Entry.TheVariants.{OfLeft, OfRight, OfPa
 use Rattle.rs_cert.specs.declared.entry.SideEntry.{SideEntry}
 use Rattle.rs_cert.specs.declared.entry.SideEntry.TheVariants.{Row, End}
 use Rattle.rs_cert.specs.Csv.{Fields, records_of}
-use Rattle.rs_cert.specs.Records.{AreRecordsOf, HasFewRows, entries_of, entry_of, greatest_number, most_wanted, number_up_to, says_end, side_entries, side_entry_of, wanted_of}
+use Rattle.rs_cert.specs.Records.{AreRecordsOf, HasFewRows, entry_of, greatest_number, most_wanted, number_up_to, side_entries, side_entry_of}
 use Rattle.rs_cert.specs.Written.{AreWritablePairs, AreWritableRows, IsWritablePair, IsWritableRow, end_record, end_records, pair_record, row_record, side_records, text_of, wanted_record, written, written_records}
 use Rattle.rs_cert.proofs.CsvFacts.{records-written}
 use Rattle.rs_cert.proofs.NumeralFacts.{int_value-decimal, number_up_to-decimal}

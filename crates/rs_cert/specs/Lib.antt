@@ -8,3 +8,4 @@ pub mod Records
 pub mod Rows
 pub mod Sound
 pub mod Verdicts
+pub mod Written

@@ -1,7 +1,6 @@
 -- The records of a certificate.
 use Rattle.std.specs.Prelude.{ℕ, ℤ, pos, negsuc, ◌≡◌, ◌≢◌, ◌≤◌, ◌<◌, ◌&&◌, nat_le, Bool, List, [], ◌∷◌, ◌++◌, codes, length, map, take, Option, Some, None, option_map, Result, Ok, Err, if◌then◌else◌}
 use Rattle.std.specs.Str.{bytes_eq, is_utf8}
-use Rattle.rs_feed.specs.declared.feed_row.FeedRow.{FeedRow}
 use Rattle.rs_value.specs.Number.{int_value}
 use Rattle.rs_cert.specs.declared.cert.Cert.{Cert}
 use Rattle.rs_cert.specs.declared.cert.CertSide.{CertSide}
