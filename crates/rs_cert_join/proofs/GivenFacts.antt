@@ -35,7 +35,7 @@ kept-pairs old new pair gave =
 answer-pair : (lefts rights : List FeedRow) (n : ℕ) (pair : Option FeedPair) (ask : Option SideAsk) → Ok pair ≡ answer_by lefts rights n ask → slice_get (joined_pairs (cut lefts) (cut rights)) n ≡ pair
 answer-pair lefts rights n pair None e = sym (ok-same e)
   where
-    ok-same : {x y : Option FeedPair} → Ok {E = JoinFault} x ≡ Ok y → x ≡ y
+    ok-same : {x y : Option FeedPair} → ◌≡◌ {A = Result (Option FeedPair) JoinFault} (Ok x) (Ok y) → x ≡ y
     ok-same e = cc
 answer-pair lefts rights n pair (Some ask) e = absurd (cc e)
 

@@ -4,10 +4,10 @@ use Rattle.std.proofs.lemmas.List.{length-map, length-take, map-append, take-map
 use Rattle.std.specs.List.{AllByRecursion}
 use Rattle.std.specs.Str.{bytes_eq}
 use Rattle.rs_cert.specs.declared.cert.Cert.{Cert}
-use Rattle.rs_cert.specs.declared.pair.Pair.{Pair}
 use Rattle.rs_cert.specs.Good as good
 use Rattle.rs_cert.specs.Good.{FallsOnBothSides, HasEnough, HasFirstPairs, IsGood, IsWhole, first_answers}
 use Rattle.rs_cert.specs.Pairs as cert
+use Rattle.rs_cert.specs.Pairs.{Answer}
 use Rattle.rs_cert_join.specs.Certs.{AreEnough, AreGiven, cert_of, numbers_in}
 use Rattle.rs_feed.specs.declared.feed_row.FeedRow.{FeedRow}
 use Rattle.rs_feed_join.specs.declared.feed_pair.FeedPair.{FeedPair}
@@ -18,7 +18,7 @@ use Rattle.rs_rank.specs.Stable.{stable}
 use Rattle.rs_rank.proofs.StableFacts.{stable-map}
 
 -- a pair of a join, as a certificate has it
-abbrev pub short : FeedPair → Pair
+abbrev pub short : FeedPair → Answer
 short pair = record { left = pair.left; right = pair.right; sum = pair.left_score + pair.right_score }
 
 -- both have the same pairs, in the same order
@@ -44,8 +44,8 @@ same-sums (pair ∷ pairs) = (refl, same-sums pairs)
 
 pub same-answers : (lefts rights : List FeedRow) → map short (joined_pairs lefts rights) ≡ cert.answers lefts rights
 same-answers lefts rights =
-    stable-map short sum_of (λ (pair : Pair). pair.sum) (pairs_from 1 lefts rights) (same-sums (pairs_from 1 lefts rights))
-    ∙ ap (stable (λ (pair : Pair). pair.sum)) (same-pairs 1 lefts rights)
+    stable-map short sum_of (λ (pair : Answer). pair.sum) (pairs_from 1 lefts rights) (same-sums (pairs_from 1 lefts rights))
+    ∙ ap (stable (λ (pair : Answer). pair.sum)) (same-pairs 1 lefts rights)
 
 same-numbers : (pairs : List FeedPair) → cert.numbers_of (map short pairs) ≡ numbers_in pairs
 same-numbers [] = refl
