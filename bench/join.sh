@@ -1,9 +1,11 @@
 #!/usr/bin/env bash
 # Measures rank joins of three tables of 150, 600 and 2,000 rows, for the first 1, 10 and 100 rows, by plans of hash joins and
-# of nested joins; and one join of two tables of 2,000 rows, for more and more rows. Beside them, in the same run, sqlite3
+# of nested joins; one join of two tables of 2,000 rows, for more and more rows; and these two by plans that score restaurants
+# where they were joined, with predicates whose MAX is ten times as great as their scores. Beside them, in the same run, sqlite3
 # joins and sorts all. The plans are given to the program cases_plans, which is told the tables and the query line by line. It
 # and sqlite3 have to print the same rows. How often a plan calls the scorer and how many rows it draws has to be what the
-# definitions say, which checks/executor.py reckons over finished lists.
+# definitions say, which checks/executor.py reckons over finished lists. Of the last plans it also reckons what they would do
+# if MAX bounded a term in the place of the first score of its index.
 # Each query runs five times, in turn, more often where it takes less than 50 ms, and once where it takes more than a second;
 # the shortest time counts. The time of a plan is what the rows that are asked for add to the time of the same line with none.
 # Starting it and telling rows and calls are part of it, reading the tables isn't. That of sqlite3 is the time of the query
@@ -27,6 +29,7 @@ fi
 cd "$root" || exit
 python3 - "$program" "$work" <<'PYTHON'
 import collections
+import copy
 import functools
 import itertools
 import re
@@ -67,12 +70,19 @@ class Visit(Query):
     """The query of these tables. What it says of lists, asks and counts is that of checks/executor.py; the rows of a list are
     found city by city, since the whole product would be too large."""
 
-    def __init__(self, rows):
-        cheap = Predicate("cheap", 300, "340 - v", lambda v: 340 - v)
-        tasty = Predicate("tasty", 100, "v", lambda v: v)
-        famous = Predicate("famous", 200, "v", lambda v: v)
+    def __init__(self, rows, times):
+        cheap = Predicate("cheap", 300 * times, "340 - v", lambda v: 340 - v)
+        tasty = Predicate("tasty", 100 * times, "v", lambda v: v)
+        famous = Predicate("famous", 200 * times, "v", lambda v: v)
         terms = [Term(1, cheap, [(1, "v")]), Term(3, tasty, [(2, "v")]), Term(2, famous, [(3, "v")])]
         super().__init__([Table(name, "ncv", of_table) for name, of_table in zip(TABLES, rows)], [], terms[: len(rows)], None)
+        self.bind([(cheap, self.tables[0], "v"), (tasty, self.tables[1], "v")])
+
+    def by_greatest_scores(self):
+        """The same, where each term is bounded by MAX."""
+        other = copy.copy(self)
+        other.tops = [term.predicate.most for term in self.terms]
+        return other
 
     def source(self):
         """What it reads and which rows match."""
@@ -142,6 +152,7 @@ PLANS = {
 WHOLE = {"nested, all scored above": rank(3, rank(2, rank(1, join("N", join("N", scan(1), scan(2)), scan(3)))))}
 WHOLE_ROWS = 600
 PAIRS = {kind: join(kind[0].upper(), index_scan(1), index_scan(2)) for kind in ("hash", "nested")}
+SCORED_ABOVE = {"%s, scored above" % kind: rank(2, join(kind[0].upper(), index_scan(1), scan(2))) for kind in ("hash", "nested")}
 
 
 class Program:
@@ -176,24 +187,24 @@ class Program:
         self.process.wait()
 
 
-def script_of(rows):
+def script_of(rows, times):
     heads = ["name TEXT, city INT, price INT", "name TEXT, city INT, rating INT", "name TEXT, city INT, fame INT"]
     statements = []
     for name, head, of_table in zip(TABLES, heads, rows):
         header = head.replace(" TEXT", "").replace(" INT", "").replace(" ", "")
         text = "".join("\\n%s,%d,%d" % row for row in of_table)
         statements.append("CREATE TABLE %s (%s) FROM '%s%s'" % (name, head, header, text))
-    statements.append("CREATE PREDICATE cheap (price INT) MAX 300 COST 2 AS 340 - price")
-    statements.append("CREATE PREDICATE tasty (rating INT) MAX 100 AS rating")
-    statements.append("CREATE PREDICATE famous (fame INT) MAX 200 COST 50 AS fame")
+    statements.append("CREATE PREDICATE cheap (price INT) MAX %d COST 2 AS 340 - price" % (300 * times))
+    statements.append("CREATE PREDICATE tasty (rating INT) MAX %d AS rating" % (100 * times))
+    statements.append("CREATE PREDICATE famous (fame INT) MAX %d COST 50 AS fame" % (200 * times))
     statements.append("CREATE RANK INDEX hotel_cheap ON hotel (cheap(price))")
     statements.append("CREATE RANK INDEX restaurant_tasty ON restaurant (tasty(rating))")
     return "; ".join(statements) + ";"
 
 
-def start_program(rows):
+def start_program(rows, times):
     ours = Program([program])
-    ours.tell("front " + script_of(rows), "front")
+    ours.tell("front " + script_of(rows, times), "front")
     return ours
 
 
@@ -241,8 +252,12 @@ def run_once(query, name, plan, ours, limit, rows, counts):
     return idle, taken
 
 
+def calls_and_draws(counts):
+    return [sum(int(node.split()[place]) for node in counts) for place in (2, 3)]
+
+
 def report(query, name, plan, limit, counts, taken, peer, peak):
-    calls, drawn = (sum(int(node.split()[place]) for node in counts) for place in (2, 3))
+    calls, drawn = calls_and_draws(counts)
     tested, found = query.pairs(plan, limit)
     work, pairs = (drawn + found, "%7d found " % found) if "H" in plan.word else (tested, "%7d tested" % tested)
     time_of_it = "%8.2f ms, %7.3f of sqlite3, %6.3f us for each" % (taken * 1000, taken / peer, taken * 1e6 / work)
@@ -251,11 +266,11 @@ def report(query, name, plan, limit, counts, taken, peer, peak):
     print("    %-28s %6d calls, %4d rows drawn, pairs %s: %s; at most %.1f MB" % (name, calls, drawn, pairs, time_of_it, peak), flush=True)
 
 
-def measure(rows, plans, limits):
-    query = Visit(rows)
+def measure(rows, plans, limits, times=1):
+    query = Visit(rows, times)
     print("%d tables of %d rows, and %d combinations" % (len(rows), len(rows[0]), len(query.rows(next(iter(plans.values()))))))
     theirs = start_sqlite(rows)
-    ours = {name: start_program(rows) for name in plans}
+    ours = {name: start_program(rows, times) for name in plans}
     for limit in limits:
         counts = {name: query.counts(plan, limit) for name, plan in plans.items()}
         taken = collections.defaultdict(list)
@@ -271,6 +286,8 @@ def measure(rows, plans, limits):
         for name, plan in plans.items():
             idle, whole = map(min, zip(*taken[name]))
             report(query, name, plan, limit, counts[name], whole - idle, peer, ours[name].peak())
+            if times > 1:
+                print("      bounded by MAX: %6d calls, %4d rows drawn" % tuple(calls_and_draws(query.by_greatest_scores().counts(plan, limit))))
     for one in [*ours.values(), theirs]:
         one.end()
 
@@ -278,4 +295,6 @@ def measure(rows, plans, limits):
 for size in [150, 600, 2000]:
     measure(rows_of(size), PLANS | WHOLE if size <= WHOLE_ROWS else PLANS, [1, 10, 100])
 measure(rows_of(2000)[:2], PAIRS, [10, 100, 1000, 10000])
+print("MAX is ten times as great as the scores, and restaurants are scored where they were joined")
+measure(rows_of(2000)[:2], SCORED_ABOVE, [1, 10, 100], times=10)
 PYTHON

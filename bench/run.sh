@@ -7,6 +7,8 @@
 # The calls of the scorer are counted by the program count_calls, less those of the index. They have to be what the
 # definition says: `plain` calls each predicate once for each row; `run` calls both on each row of its sample, and then the
 # second one for each row of the index whose bound comes before the score of the last row that is printed, and for one more.
+# At the end the second predicate has a MAX of ten times its scores, and an index too, whose first score bounds it. Beside the
+# calls stands how many that plan would make if MAX bounded it.
 # The programs are those that ./ranksql and `rt run` build, or those that the variables RANKSQL and COUNT_CALLS name.
 # shellcheck source=bench/functions.sh
 . "$(dirname "$0")/functions.sh"
@@ -27,6 +29,7 @@ fi
 
 cd "$root" || exit
 python3 - "$program" "$counter" "$work" "$ROWS" "$RUNS" <<'PYTHON'
+import itertools
 import subprocess
 import sys
 import time
@@ -37,6 +40,8 @@ NO_QUERY = 0
 # Of one table so many rows are sampled, and each of both terms is scored on them.
 SAMPLED = 2 * 256
 MOST_RATED, MOST_RECENT = 999, 75
+# The same far above the scores, of which the greatest is that of 2024.
+FAR_RECENT, TOP_RECENT = 750, 74
 
 # Films with a rating from 0 to 999 and a year from 1950 to 2024. The numbers are those of the generator
 # x -> 16807 x modulo 2^31 - 1, so each run makes the same file.
@@ -49,23 +54,29 @@ def draw(below):
     return seed * below // 2147483647
 
 
+def script_of(limit, most):
+    return "%s/%d_%d.sql" % (folder, limit, most)
+
+
 films = [(draw(1000), 1950 + draw(75)) for _ in range(rows)]
 with open(folder + "/films.csv", "w") as file:
     file.write("title,rating,year\n")
     file.writelines("Film number %d,%d,%d\n" % (row, *film) for row, film in enumerate(films, 1))
-for limit in [NO_QUERY, *LIMITS]:
-    with open("%s/%d.sql" % (folder, limit), "w") as file:
+for most, limit in itertools.product([MOST_RECENT, FAR_RECENT], [NO_QUERY, *LIMITS]):
+    with open(script_of(limit, most), "w") as file:
         file.write("""CREATE TABLE films (title TEXT, rating INT, year INT) FROM '%s/films.csv';
 CREATE PREDICATE rated (rating INT) MAX %d AS rating;
 CREATE PREDICATE recent (year INT) MAX %d COST 20 AS year - 1950;
 CREATE RANK INDEX by_rated ON films (rated(rating));
-""" % (folder, MOST_RATED, MOST_RECENT))
+""" % (folder, MOST_RATED, most))
+        if most == FAR_RECENT:
+            file.write("CREATE RANK INDEX by_recent ON films (recent(year));\n")
         if limit != NO_QUERY:
             file.write("SELECT title FROM films ORDER BY 2 * rated(rating) + recent(year) LIMIT %d;\n" % limit)
 
 
-def words_of(side, limit):
-    script = "%s/%d.sql" % (folder, limit)
+def words_of(side, limit, most=MOST_RECENT):
+    script = script_of(limit, most)
     if side == "run":
         return [program, "run", script, "1"]
     if side == "plain":
@@ -100,10 +111,10 @@ def calls_of(words):
 
 # The calls that the definition has for the first rows of `run`.
 scores = sorted((-2 * rating - (year - 1950), row) for row, (rating, year) in enumerate(films, 1))
-bounds = [(-2 * rating - MOST_RECENT, row) for row, (rating, _) in enumerate(films, 1)]
 
 
-def calls_needed(limit):
+def calls_needed(limit, top):
+    bounds = [(-2 * rating - top, row) for row, (rating, _) in enumerate(films, 1)]
     return SAMPLED + min(rows, 1 + sum(bound < scores[limit - 1] for bound in bounds))
 
 
@@ -133,9 +144,18 @@ run, plain = (calls_of([*words]) - before for words in [("run", "examples/films/
 print("examples/films: calls of run %d, of plain %d" % (run, plain))
 for limit in LIMITS:
     run, plain = (calls_of(words_of(word, limit)[1:]) - calls_of(words_of(word, NO_QUERY)[1:]) for word in ["run", "plain"])
-    if (run, plain) != (calls_needed(limit), 2 * rows):
-        sys.exit("bench: %d and %d calls at LIMIT %d, where the definitions have %d and %d" % (run, plain, limit, calls_needed(limit), 2 * rows))
+    if (run, plain) != (calls_needed(limit, MOST_RECENT), 2 * rows):
+        sys.exit("bench: %d and %d calls at LIMIT %d, where the definitions have %d and %d" % (run, plain, limit, calls_needed(limit, MOST_RECENT), 2 * rows))
     query = {side: best[side, limit] - best[side, NO_QUERY] for side in sides}
     print("LIMIT %4d: calls of run %6d, of plain %6d; the query takes run %8.2f ms, plain %8.2f ms, sqlite3 %8.2f ms; the whole of run %.2f of that of plain, %.2f of that of sqlite3"
           % (limit, run, plain, *(query[side] * 1000 for side in sides), best["run", limit] / best["plain", limit], best["run", limit] / best["sqlite3", limit]))
+print("recent has a MAX of %d and an index too" % FAR_RECENT)
+for limit in LIMITS:
+    words = words_of("run", limit, FAR_RECENT)
+    if spent(words)[1] != printed["run", limit]:
+        sys.exit("bench: other rows at LIMIT %d" % limit)
+    run = calls_of(words[1:]) - calls_of(words_of("run", NO_QUERY, FAR_RECENT)[1:])
+    if run != calls_needed(limit, TOP_RECENT):
+        sys.exit("bench: %d calls at LIMIT %d, where the definitions have %d" % (run, limit, calls_needed(limit, TOP_RECENT)))
+    print("LIMIT %4d: calls of run %6d; bounded by MAX %6d" % (limit, run, calls_needed(limit, FAR_RECENT)))
 PYTHON

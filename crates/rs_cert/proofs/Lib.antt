@@ -1,10 +1,17 @@
 pub mod AnswerFacts
 pub mod ByTextFacts
+pub mod CertFacts
 pub mod CheckFacts
 pub mod ClaimFacts
 pub mod CountFacts
+pub mod CsvFacts
 pub mod FirstFacts
+pub mod GrowFacts
 pub mod InsideFacts
+pub mod NumeralFacts
 pub mod PairFacts
+pub mod ReadingFacts
 pub mod RowFacts
 pub mod SoundFacts
+pub mod WorkedRecords
+pub mod WrittenFacts

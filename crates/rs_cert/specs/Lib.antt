@@ -1,7 +1,11 @@
 pub mod ByText
 pub mod Claims
+pub mod Csv
 pub mod Good
+pub mod Growing
 pub mod Pairs
+pub mod Records
 pub mod Rows
 pub mod Sound
 pub mod Verdicts
+pub mod Written

@@ -7,6 +7,10 @@ use Rattle.rs_cert.specs.declared.pair.Pair.{Pair}
 use Rattle.rs_feed.specs.declared.feed_row.FeedRow.{FeedRow}
 use Rattle.rs_rank.specs.Stable.{stable}
 
+-- a pair of rows with the sum of their scores, under a name that other crates can use
+abbrev pub Answer : Type 0
+Answer = Pair
+
 -- the pairs of a left row with the right rows of its text; the right rows are numbered from j
 abbrev pub pairs_of_row : ℕ → FeedRow → ℕ → List FeedRow → List Pair
 pairs_of_row i left j [] = []

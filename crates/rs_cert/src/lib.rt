@@ -2,7 +2,8 @@
 //! The check shares nothing with the join.
 //!
 //! Its promise: a check says that a certificate is good exactly where it is, and else tells the first part that fails; whatever two
-//! feeds begin with the rows of a good certificate, their first pairs are its pairs.
+//! feeds begin with the rows of a good certificate, their first pairs are its pairs. What is written of a certificate is read back as it,
+//! and bytes that are none are refused at the first record with which no certificate begins.
 #![tactic(auto)]
 
 mod by_text;
@@ -10,12 +11,22 @@ mod cert;
 mod checking;
 mod claim;
 mod count;
+mod draft;
+mod entry;
+mod fault;
 mod laws;
 mod pair;
+mod reading;
 mod rise;
 mod verdict;
+mod writing;
 
 pub use cert::{Cert, CertSide};
 pub use checking::check;
-pub use laws::good_certificates_are_sound;
+pub use draft::MOST_ROWS;
+pub use entry::MOST_WANTED;
+pub use fault::CertFault;
+pub use laws::{good_certificates_are_sound, records_are_of_one_certificate};
+pub use reading::read_cert;
 pub use verdict::Verdict;
+pub use writing::write;

@@ -28,7 +28,7 @@ use Rattle.rs_plain.specs.declared.fault.PlainFault.TheVariants.{Memory}
 use Rattle.rs_query.proofs.ThroughFacts.{each-first, each-through}
 
 -- what holds of each item that a list gives holds of those of all together
-each-flat_map : {X Y : Type 0} (P : Y → Type 0) (f : X → List Y) (xs : List X) → ((x : X) → AllByRecursion P (f x)) → AllByRecursion P (flat_map f xs)
+pub each-flat_map : {X Y : Type 0} (P : Y → Type 0) (f : X → List Y) (xs : List X) → ((x : X) → AllByRecursion P (f x)) → AllByRecursion P (flat_map f xs)
 each-flat_map P f [] h = tt
 each-flat_map P f (x ∷ xs) h = each-append P (f x) (flat_map f xs) (h x) (each-flat_map P f xs h)
 
@@ -36,7 +36,7 @@ module _ (catalogue : CatalogDef) (query : Query) where
   abbrev CallsIt : Term → Type 0
   CallsIt term = IsCalled catalogue query term.predicate
 
-  abbrev AsksIt : Question → Type 0
+  abbrev pub AsksIt : Question → Type 0
   AsksIt question = IsCalled catalogue query question.term.predicate
 
   abbrev Tells : Request PlainFault → Type 0
@@ -50,7 +50,7 @@ module _ (catalogue : CatalogDef) (query : Query) where
     terms-called terms (λ other i. among other (inr i)) h.1,
   )
 
-  block-called : (block : Block) → IsBlock catalogue block → ((term : Term) → In term block.terms → In term (terms_of query)) → AllByRecursion CallsIt block.terms
+  pub block-called : (block : Block) → IsBlock catalogue block → ((term : Term) → In term block.terms → In term (terms_of query)) → AllByRecursion CallsIt block.terms
   block-called block formed among =
       terms-called block.terms among
       (each-weaker (IsTerm catalogue block) (λ (t : Term). t.predicate < length catalogue.predicates)
@@ -71,7 +71,7 @@ module _ (catalogue : CatalogDef) (query : Query) where
       subst (NamesCalled catalogue query) (sym same) (each-first (is_bad answer catalogue) AsksIt questions q each first)
 
   -- any fault
-  comes-named : {A : Type 0} (answer : Answering) (questions : List Question) (value : A) (fault : PlainFault) (old new : ScorerState) → AllByRecursion AsksIt questions
+  pub comes-named : {A : Type 0} (answer : Answering) (questions : List Question) (value : A) (fault : PlainFault) (old new : ScorerState) → AllByRecursion AsksIt questions
       → (InquiryEnds (asking plain_faults answer catalogue questions value) (Err fault) old new ⊎ InquiryFails (asking plain_faults answer catalogue questions value) (Err fault) old new)
       ⊎ InquiryStops Memory (asking plain_faults answer catalogue questions value) (Err fault) old new
       → NamesCalled catalogue query fault

@@ -55,7 +55,7 @@ Climbs-cut : (limit : Option ℕ) (rows : List Answer) → Climbs key_cmp key_of
 Climbs-cut None rows h = h
 Climbs-cut (Some n) rows h = Climbs-take key_cmp key_of_answer n rows h
 
-Climbs-stable : (rows : List Answer) → Rise rows → Climbs key_cmp key_of_answer (stable (λ (r : Answer). r.score) rows)
+pub Climbs-stable : (rows : List Answer) → Rise rows → Climbs key_cmp key_of_answer (stable (λ (r : Answer). r.score) rows)
 Climbs-stable rows h =
     let by_score = stable-by_score (λ (r : Answer). r.score) rows in
     let by_ids = sorted-places (flip_args nat_cmp) (λ (r : Answer). r.score) ids_cmp ids_cmp-total ids_of rows h in

@@ -14,3 +14,5 @@ mod sets;
 pub use answer::answer_plainly;
 pub use fault::PlainFault;
 pub use laws::{answers_climb, rows_climb};
+pub use outputs::block_answers;
+pub use scored::scored_rows;

@@ -31,7 +31,7 @@ pub(crate) fn query_answers(
 }
 
 /// The rows that scored combinations of a block make.
-pub(crate) fn block_answers(
+pub fn block_answers(
     alloc: Global,
     catalog: &Snapshot<'_>,
     block: &Block,

@@ -63,7 +63,7 @@ pub(crate) fn scored_block<S: Scorer>(
 }
 
 /// Some combinations of a block of this number, each with its score.
-fn scored_rows<S: Scorer>(
+pub fn scored_rows<S: Scorer>(
     alloc: Global,
     catalog: &Snapshot<'_>,
     block: &Block,

@@ -1,0 +1,155 @@
+#!/usr/bin/env python3
+r"""Reads certificates of joins of two feeds, and checks them, as they are defined: all pairs of the rows are listed and sorted.
+
+Without arguments it changes each byte of some certificates to each other value, and prints how many of the changed ones are read and
+checked as what. The numbers stand in the crate test_certificates. With the name of a file it prints what `check` says of the file:
+
+    python3 checks/certificates.py
+    python3 checks/certificates.py FILE
+"""
+
+import sys
+
+FIRST = b"cert,1,1\nleft,9,a\nleft,8,b\nright,9,b\nright,6,a\npair,2,1\n"
+WHOLE = b"cert,1,3\nleft,7,a\nleft,end,end\nright,5,a\nright,end,end\npair,1,1\n"
+MOST = 4294967295
+GREATEST = 4000000000000000000
+KINDS = ["yes", "Order", "Pairs", "Short", "Left", "Right", "Form"]
+
+
+def records(text):
+    """The records of a file of comma-separated fields, read byte by byte: a field that begins with a quote ends at the next one that
+    isn't doubled, what stands behind it joins the field, and empty lines are no records."""
+    if text[:3] == b"\xef\xbb\xbf":
+        text = text[3:]
+    made, fields, field, state = [], [], bytearray(), "record"
+    for byte in text:
+        if state == "quoted":
+            if byte == 34:
+                state = "quote"
+            else:
+                field.append(byte)
+        elif state == "quote" and byte == 34:
+            field.append(byte)
+            state = "quoted"
+        elif state == "record" and byte in b"\r\n":
+            pass
+        elif state in ("record", "field") and byte == 34:
+            state = "quoted"
+        elif byte == 44:
+            fields.append(bytes(field))
+            field, state = bytearray(), "field"
+        elif byte in b"\r\n":
+            made.append(fields + [bytes(field)])
+            fields, field, state = [], bytearray(), "record"
+        else:
+            field.append(byte)
+            state = "inside"
+    if state != "record":
+        made.append(fields + [bytes(field)])
+    return made
+
+
+def number(field, most):
+    digits = field[1:] if field[:1] in (b"+", b"-") else field
+    if not digits or any(byte not in b"0123456789" for byte in digits):
+        return None
+    value = int(digits)
+    if value > GREATEST:
+        return None
+    value = -value if field[:1] == b"-" else value
+    return value if 0 <= value <= most else None
+
+
+def is_text(field):
+    try:
+        field.decode("utf-8")
+    except UnicodeDecodeError:
+        return False
+    return True
+
+
+def read(text):
+    """The certificate of a file, or the number of the first record with which no certificate begins."""
+    made = records(text)
+    if not made:
+        return 1
+    head = made[0]
+    if len(head) != 3 or head[:2] != [b"cert", b"1"] or number(head[2], 1000000) is None:
+        return 1
+    sides, ended, pairs = ([], []), [False, False], []
+    for place, fields in enumerate(made[1:], 2):
+        if len(fields) != 3:
+            return place
+        name, one, other = fields
+        if name == b"pair":
+            pair = number(one, MOST), number(other, MOST)
+            if None in pair:
+                return place
+            pairs.append(pair)
+            continue
+        if name not in (b"left", b"right") or pairs:
+            return place
+        side = 0 if name == b"left" else 1
+        if ended[side] or (side == 0 and (sides[1] or ended[1])):
+            return place
+        if (one, other) == (b"end", b"end"):
+            ended[side] = True
+            continue
+        if number(one, MOST) is None or not is_text(other) or len(sides[side]) == 8192:
+            return place
+        sides[side].append((number(one, MOST), other))
+    return number(head[2], 1000000), sides, ended, pairs
+
+
+def check(cert):
+    """Whether a certificate is good, or the first part of it that fails."""
+    wanted, sides, ended, pairs = cert
+    for rows in sides:
+        if any(rows[i][0] > rows[i - 1][0] for i in range(1, len(rows))):
+            return "Order"
+    lefts, rights = sides
+    key = lambda i, j: (-(lefts[i][0] + rights[j][0]), i + 1, j + 1)
+    answers = sorted(key(i, j) for i in range(len(lefts)) for j in range(len(rights)) if lefts[i][1] == rights[j][1])
+    if len(pairs) > wanted or pairs != [answer[1:] for answer in answers[: len(pairs)]]:
+        return "Pairs"
+    if len(pairs) < wanted:
+        none_comes = all(ended) or any(end and not rows for end, rows in zip(ended, sides))
+        if len(pairs) < len(answers) or not none_comes:
+            return "Short"
+    if pairs and not ended[0] and answers[len(pairs) - 1] > key(len(lefts) - 1, 0):
+        return "Left"
+    if pairs and not ended[1] and answers[len(pairs) - 1] > key(0, len(rights) - 1):
+        return "Right"
+    return "yes"
+
+
+def said(text):
+    cert = read(text)
+    return ("Form", cert) if isinstance(cert, int) else (check(cert), 0)
+
+
+def changed(text):
+    """How often each answer comes, and the sum of the records that are named, for each byte changed to each other value."""
+    counts, places = dict.fromkeys(KINDS, 0), 0
+    for at in range(len(text)):
+        for byte in range(256):
+            if byte != text[at]:
+                kind, place = said(text[:at] + bytes([byte]) + text[at + 1 :])
+                counts[kind] += 1
+                places += place
+    return [counts[kind] for kind in KINDS], places
+
+
+def main():
+    if len(sys.argv) > 1:
+        with open(sys.argv[1], "rb") as file:
+            kind, place = said(file.read())
+        print(f"CertForm record {place}" if kind == "Form" else kind if kind == "yes" else f"no {kind}")
+        return
+    for text in (FIRST, WHOLE):
+        print(said(text), *changed(text))
+
+
+if __name__ == "__main__":
+    main()

@@ -1,0 +1,3 @@
+pub mod GivenFacts
+pub mod GoodFacts
+pub mod SideFacts

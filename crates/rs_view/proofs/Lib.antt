@@ -1,0 +1,8 @@
+mod WorkedViews
+pub mod CallFacts
+pub mod FirstFacts
+pub mod GrowFacts
+pub mod MergeFacts
+pub mod RowFacts
+pub mod SplitFacts
+pub mod StandFacts

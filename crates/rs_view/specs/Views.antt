@@ -1,0 +1,42 @@
+-- Views that are kept: the first rows of the answer of a query, while its tables grow.
+use Rattle.std.specs.Prelude.{ℕ, ◌≡◌, false, List, [], take, unwrap_or}
+use Rattle.rs_rank.specs.declared.answer.Answer.{Answer}
+use Rattle.rs_expr.specs.Scoring.{Answering}
+use Rattle.rs_catalog.specs.Catalog.{CatalogDef}
+use Rattle.rs_query.specs.Answers.{answer_of, limit_of}
+use Rattle.rs_query.specs.Blocks.{block_in}
+use Rattle.rs_query.specs.Growth.{IsSizes}
+use Rattle.rs_query.specs.WellFormed.{IsQuery}
+use Rattle.rs_query.specs.declared.query.Query.{Query}
+use Rattle.rs_query.specs.declared.query.Query.TheVariants.{One, Set}
+
+-- a view as contracts see it: its query, how many rows each FROM entry had when it was made or grew last, and its rows
+pub record ViewDef : Type 0 where
+  pub query : Query
+  pub lengths : List ℕ
+  pub rows : List Answer
+
+-- a query of which a view may be kept: one block, of which no row is compared with another one by its output values
+abbrev pub IsKeepable : Query → Type 0
+IsKeepable (One block limit) = block.distinct ≡ false
+IsKeepable (Set op left right limit) = ⊥
+
+-- how many rows a view has at most: as many as LIMIT says, or 10
+abbrev pub most_kept : Query → ℕ
+most_kept query = unwrap_or (limit_of query) 10
+
+-- the first rows of the answer of a query that sees this many rows of its FROM entries
+abbrev pub kept_rows : Answering → CatalogDef → Query → List ℕ → List Answer
+kept_rows answer catalogue query lengths = take (most_kept query) (answer_of answer catalogue query (record { first = lengths; second = [] }))
+
+-- the view of a query for this many rows of its FROM entries
+abbrev pub view_of : Answering → CatalogDef → Query → List ℕ → ViewDef
+view_of answer catalogue query lengths = record { query = query; lengths = lengths; rows = kept_rows answer catalogue query lengths }
+
+-- a view stands for a scorer's answers and a catalogue: its query is well formed there, its tables have at least as many rows as it
+-- keeps of each entry, and its rows are the first ones of the answer over so many rows
+pub record Stands (answer : Answering) (catalogue : CatalogDef) (view : ViewDef) : Type 0 where
+  pub query : IsQuery catalogue view.query
+  pub keepable : IsKeepable view.query
+  pub lengths : IsSizes catalogue (block_in view.query 1) view.lengths
+  pub rows : view.rows ≡ kept_rows answer catalogue view.query view.lengths
