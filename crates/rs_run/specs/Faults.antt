@@ -46,16 +46,10 @@ status_of (Some (Statement (fault.Session why name))) = status.Session
 abbrev pub word_name : ScriptWord → List ℕ
 word_name Ta = codes "ta"
 
--- which row of a feed is out of order: its number and the score before it, and with its own score
-abbrev pub order_place : ℕ → ℕ → List ℕ
-order_place row before = codes "OutOfOrder row " ++ decimal row ++ codes " before " ++ decimal before
-
-abbrev pub order_text : ℕ → ℕ → ℕ → List ℕ
-order_text row before got = order_place row before ++ codes " got " ++ decimal got
-
 -- the line of a fault
 abbrev pub run_fault_line : RunFault → List ℕ
 run_fault_line Usage = codes "usage: ranksql top FILE COLUMN MAX K, run SCRIPT SEED, plain SCRIPT, gen NUMBER ROWS, ta SCRIPT, feed LEFT RIGHT K\n"
 run_fault_line (NotEligible word statement) = codes "script: " ++ word_name word ++ codes " NotEligible statement " ++ decimal statement ++ 10 ∷ []
-run_fault_line (Order name row before got) = codes "table: " ++ name ++ codes ": " ++ order_text row before got ++ 10 ∷ []
+run_fault_line (Order name row before got) =
+    codes "table: " ++ name ++ codes ": OutOfOrder row " ++ decimal row ++ codes " before " ++ decimal before ++ codes " got " ++ decimal got ++ 10 ∷ []
 run_fault_line (Statement why) = fault_line why

@@ -1,6 +1,6 @@
 ghost use Rattle.std.specs.Prelude.{◌≡◌, IfOk, Some};
 ghost use Rattle.std.specs.String.{string_bytes};
-ghost use Rattle.rs_run.specs.Faults.{order_place, order_text, run_fault_line, status_of, word_name};
+ghost use Rattle.rs_run.specs.Faults.{run_fault_line, status_of, word_name};
 
 use crate::status::Status;
 use rs_events::HaltFault;
@@ -122,25 +122,8 @@ impl RunFault {
 fn order_line(alloc: Global, name: &Text, row: u32, before: u32, got: u32) -> Result<String, Memory>
     ensures { IfOk result (λ line. string_bytes line ≡ run_fault_line (RunFault.Order name.now row before got)) }
 {
-    let why = order_text(alloc, row, before, got)?;
     let name = name.as_str();
-    let why = why.as_str();
-    Ok(format!(in alloc; "table: {name}: {why}\n")?)
-}
-
-/// Which row of a feed is out of order.
-fn order_text(alloc: Global, row: u32, before: u32, got: u32) -> Result<String, Memory>
-    ensures { IfOk result (λ text. string_bytes text ≡ order_text row before got) }
-{
-    let place = order_place(alloc, row, before)?;
-    let place = place.as_str();
-    Ok(format!(in alloc; "{place} got {got}")?)
-}
-
-fn order_place(alloc: Global, row: u32, before: u32) -> Result<String, Memory>
-    ensures { IfOk result (λ text. string_bytes text ≡ order_place row before) }
-{
-    Ok(format!(in alloc; "OutOfOrder row {row} before {before}")?)
+    Ok(format!(in alloc; "table: {name}: OutOfOrder row {row} before {before} got {got}\n")?)
 }
 
 /// The status of a run that ends with this fault of `top` or of a script.
