@@ -154,14 +154,7 @@ fn make<T: TableReader, W: Host>(
         (W.state host.old) (W.state host.new) }
     ensures held { IfOk result (λ _. IndexesHold (W.state host.old).scorer.answer catalog.new) }
 {
-    run_without_cursor(
-        alloc,
-        Evaluating::Plainly,
-        statement,
-        catalog,
-        tables,
-        host,
-    )?;
+    run_without_cursor(alloc, Evaluating::Plainly, statement, catalog, tables, host)?;
     Ok(())
 }
 

@@ -48,7 +48,7 @@ returns-in_err-put_scanned_row-in-Some-clause-puts g c = λ beside.
     let new = record beside { out = g.O.Sink.state c.put_scanned_row.new.out } in
     let within : given < most_asks c.args.limit = subst (λ most. given < most) c.most_asks-given-end.ensures c.loop-given-test.true in
     let e = sym c.in-Some.is ∙ next-is test c.args.scan.now c.args.lists.now given c.loop-given.scan c.loop-given.lists c.loop-given.invariant.at c.in_ok-found.found c.next.new.self c.next.new.lists
-        c.in_ok-found.ensures.row c.in_ok-found.ensures.after c.in_ok-found.ensures.stands c.in_ok-found.ensures.input c.in_ok-found.ensures.lists in
+    c.in_ok-found.ensures.row c.in_ok-found.ensures.after c.in_ok-found.ensures.stands c.in_ok-found.ensures.input c.in_ok-found.ensures.lists in
     subst (λ result. Ran run_faults (lines_run (rank_lines 1 (scanned_rows test c.args.limit i))) result old new)
     (sym (given-err c.from_residual-in_err-put_scanned_row-in-Some.result c.in_err-put_scanned_row-in-Some.field-0.0 c.from_residual-in_err-put_scanned_row-in-Some.ensures))
     (lines-broken test c.args.limit i given c.in-Some.row within e c.in_err-put_scanned_row-in-Some.field-0.0 old middle new (c.loop-given.invariant.has beside)
@@ -62,7 +62,7 @@ loop-given-preserved g c =
     let i = scan_input test c.args.scan.now c.args.lists.now in
     let within : given < most_asks c.args.limit = subst (λ most. given < most) c.most_asks-given-end.ensures c.loop-given-test.true in
     let e = sym c.in-Some.is ∙ next-is test c.args.scan.now c.args.lists.now given c.loop-given.scan c.loop-given.lists c.loop-given.invariant.at c.in_ok-found.found c.next.new.self c.next.new.lists
-        c.in_ok-found.ensures.row c.in_ok-found.ensures.after c.in_ok-found.ensures.stands c.in_ok-found.ensures.input c.in_ok-found.ensures.lists in record {
+    c.in_ok-found.ensures.row c.in_ok-found.ensures.after c.in_ok-found.ensures.stands c.in_ok-found.ensures.input c.in_ok-found.ensures.lists in record {
       has = λ beside.
           let old = record beside { out = g.O.Sink.state c.args.out.now } in
           let middle = record beside { out = g.O.Sink.state c.loop-given.out } in

@@ -93,8 +93,8 @@ returns g c =
     ap (λ (own : BlockTestState). scanned_rows own limit (block_input catalogue block indexes)) c.new-test.ensures
     ∙ c.threshold_scans_give_the_answer.ensures.answer answer catalogue block limit indexes c.requires.formed c.requires.eligible (held-indexes answer catalogue indexes c.requires.held) in
     let lines : rank_lines 1 (scanned_rows c.new-test.result limit (scan_input c.new-test.result c.new-scan.result c.new-lists.result))
-            ++ access_line (scan_input c.new-test.result c.new-scan.result c.new-lists.result) (scan_asks limit (scan_input c.new-test.result c.new-scan.result c.new-lists.result)) ∷ []
-            ≡ scan_lines answer catalogue (One block limit) (block_input catalogue block indexes) =
+    ++ access_line (scan_input c.new-test.result c.new-scan.result c.new-lists.result) (scan_asks limit (scan_input c.new-test.result c.new-scan.result c.new-lists.result)) ∷ []
+    ≡ scan_lines answer catalogue (One block limit) (block_input catalogue block indexes) =
     ap (λ (i : ScanInput). rank_lines 1 (scanned_rows c.new-test.result limit i) ++ access_line i (scan_asks limit i) ∷ []) input
     ∙ ap (λ (rows : List Answer). rank_lines 1 rows ++ access_line (block_input catalogue block indexes) (scan_asks limit (block_input catalogue block indexes)) ∷ []) rows in
     rw g.met.W.Host.after_out (lines-same _ _ lines c.put_scan-put.result old _ (rw c.out.ensures.value at c.put_scan-put.ensures old))
