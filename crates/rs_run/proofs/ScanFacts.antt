@@ -1,9 +1,9 @@
 -- The rows that a threshold scan of a block gives, one after another, and the line of its accesses.
-use Rattle.std.proofs.Common.{ℕ, zero, suc, ◌≡◌, ◌∙◌, ◌+◌, ◌-◌, ◌*◌, ◌^◌, ◌<◌, ◌≤◌, ◌++◌, Bool, true, false, cond, List, [], ◌∷◌, length, map, take, drop, get_or, Some, None, refl, sym, ap, subst, inl, inr, arith, add-one, add-zero}
-use Rattle.std.specs.Prelude.{Option, Ok, Err, Result, min, option_map, slice_get, ◌⊎◌}
+use Rattle.std.proofs.Common.{ℕ, zero, suc, ◌≡◌, ◌∙◌, ◌+◌, ◌-◌, ◌*◌, ◌^◌, ◌<◌, ◌≤◌, ◌++◌, Bool, true, false, cond, List, [], ◌∷◌, length, map, take, drop, Some, None, refl, sym, ap, subst, inl, inr, arith, add-one, add-zero}
+use Rattle.std.specs.Prelude.{Option, Ok, Err, Result, if◌then◌else◌, is_none, is_some, min, option_map, slice_get, ◌⊎◌}
 use Rattle.std.specs.List.{filter}
 use Rattle.std.proofs.lemmas.List.{length-map, length-take, take-append-drop, take_all}
-use Rattle.std.proofs.lemmas.Option.{get_or_from_slice_get, slice_get-map, slice_get_within}
+use Rattle.std.proofs.lemmas.Option.{slice_get-map}
 use Rattle.rs_order.specs.Climbing.{In}
 use Rattle.rs_order.specs.Schedule.{numbers_from}
 use Rattle.rs_order.proofs.ItemFacts.{In-filter-back, In-map-back}
@@ -34,7 +34,6 @@ use Rattle.rs_events.specs.Running.{HasDone}
 use Rattle.rs_events.proofs.RanFacts.{HasDone-line, Ran-all, Ran-behind, Ran-done, Ran-lines, Ran-longer, Ran-no_memory, map-both}
 use Rattle.rs_statement.specs.Lines.{rank_lines}
 use Rattle.rs_statement.specs.Planned.{ask_count}
-use Rattle.rs_statement.proofs.PrintFacts.{length-rank_lines, rank_lines-more, rank_lines-next}
 use Rattle.rs_run.specs.declared.fault.RunFault.{RunFault}
 use Rattle.rs_run.specs.Faults.{WordsRun, run_faults}
 use Rattle.rs_run.specs.Parts.Scanning.{IsAsked, IsBlockRow, IsScanning, accesses_text, most_asks, scan_input, scanned_rows}
@@ -53,32 +52,6 @@ is_row-answer i row h =
     let most = bounds.1 in
     (image.source, record { some = least; within = omega arith }, image.image)
 
--- the scan was asked once more, and gave a row or none
-module _ (test : BlockTestState) (old new : Scan) (lists new_lists : IndexListsState) (scanning : IsScanning test old lists) where
-  abbrev input : ScanInput
-  input = scan_input test old lists
-
-  -- it goes on behind a row
-  pub scanning-more : new ≡ scan_after input (suc old.given) (old.given + 1) false → Stands input new (index_lists_state new_lists) → scan_input test new new_lists ≡ input
-      → (index_lists_state new_lists).lists ≡ (index_lists_state lists).lists → IsScanning test new new_lists
-  scanning-more after stands same lists_same = record {
-    entry_is = ap (λ (s : Scan). s.entry) after ∙ scanning.entry_is;
-    block_is = ap (λ (s : Scan). s.block) after ∙ scanning.block_is;
-    stands = subst (λ (i : ScanInput). Stands i new (index_lists_state new_lists)) (sym same) stands;
-    have = subst (λ (i : ScanInput). HaveWeights i) (sym same) scanning.have;
-    same_rows = scanning.same_rows ∙ ap rows_in (sym lists_same);
-  }
-
-  -- the row is one of the block
-  pub scanned-row : (catalogue : CatalogDef) (block : Block) → test ≡ record { catalogue = catalogue; block = block } → (row : RankRow) → Some row ≡ slice_get (answers input) old.given → IsBlockRow catalogue block row
-  scanned-row catalogue block is_test row e =
-      let found = is_row-answer input row (In-slice_get old.given (answers input) row (sym e)) in
-      let size : size_of catalogue block 1 ≡ rows_in input.lists = ap (λ (t : BlockTestState). size_of t.catalogue t.block 1) (sym is_test) ∙ scanning.same_rows in record {
-        number = found.0;
-        is_row = subst (λ (rows : ℕ). IsRow rows found.0) (sym size) found.1;
-        ids_are = ap (λ (r : RankRow). r.ids) found.2 ∙ ap (λ (block : ℕ). ids_at block old.entry found.0) scanning.block_is ∙ ap (λ (entry : ℕ). ids_at 1 entry found.0) scanning.entry_is;
-      }
-
 -- the first of some items, as many as LIMIT says at most
 slice_get-first : {A : Type 0} (count n : ℕ) (xs : List A) → n < count → slice_get (take count xs) n ≡ slice_get xs n
 slice_get-first zero n xs within = absurd (omega arith)
@@ -95,6 +68,35 @@ length-cut None n xs (inl e) few = let most : n ≡ 2 ^ 64 - 1 = e in omega arit
 length-cut None n xs (inr e) few = omega arith
 length-cut (Some limit) n xs (inl e) few = omega (arith, length-take limit xs)
 length-cut (Some limit) n xs (inr e) few = omega (arith, length-take limit xs)
+
+-- the lines of rows: there is one for each, and those of the first rows are the first lines
+length-lines : (rank : ℕ) (rows : List Answer) → length (rank_lines rank rows) ≡ length rows
+length-lines rank [] = refl
+length-lines rank (row ∷ rows) = ap suc (length-lines (rank + 1) rows)
+
+lines-split : (rank n : ℕ) (rows : List Answer) (row : Answer) → slice_get rows n ≡ Some row
+    → rank_lines rank rows ≡ take n (rank_lines rank rows) ++ (line_of (rank + n) row.score row.values ∷ drop (suc n) (rank_lines rank rows))
+lines-split rank n [] row e = cc
+lines-split rank zero (first ∷ rows) row e =
+    let same : first ≡ row = cc in
+    let at : rank ≡ rank + 0 = omega arith in
+    ap (λ (r : Answer). line_of rank r.score r.values ∷ rank_lines (rank + 1) rows) same ∙ ap (λ k. line_of k row.score row.values ∷ rank_lines (rank + 1) rows) at
+lines-split rank (suc n) (first ∷ rows) row e =
+    let at : rank + 1 + n ≡ rank + suc n = omega arith in
+    ap (λ rest. line_of rank first.score first.values ∷ rest)
+    (lines-split (rank + 1) n rows row e ∙ ap (λ k. take n (rank_lines (rank + 1) rows) ++ (line_of k row.score row.values ∷ drop (suc n) (rank_lines (rank + 1) rows))) at)
+
+first-lines : (rank n : ℕ) (rows : List Answer) (row : Answer) → slice_get rows n ≡ Some row
+    → take (suc n) (rank_lines rank rows) ≡ take n (rank_lines rank rows) ++ line_of (rank + n) row.score row.values ∷ []
+first-lines rank n [] row e = cc
+first-lines rank zero (first ∷ rows) row e =
+    let same : first ≡ row = cc in
+    let at : rank ≡ rank + 0 = omega arith in
+    ap (λ (r : Answer). line_of rank r.score r.values ∷ []) same ∙ ap (λ k. line_of k row.score row.values ∷ []) at
+first-lines rank (suc n) (first ∷ rows) row e =
+    let at : rank + 1 + n ≡ rank + suc n = omega arith in
+    ap (λ rest. line_of rank first.score first.values ∷ rest)
+    (first-lines (rank + 1) n rows row e ∙ ap (λ k. take n (rank_lines (rank + 1) rows) ++ line_of k row.score row.values ∷ []) at)
 
 -- a row that the scan gives, as one of those that are put
 module _ (test : BlockTestState) (limit : Option ℕ) (i : ScanInput) where
@@ -114,25 +116,31 @@ module _ (test : BlockTestState) (limit : Option ℕ) (i : ScanInput) where
     abbrev line : List ℕ
     line = line_of (given + 1) answer.score answer.values
 
-    row-within : given < length rows
-    row-within = slice_get_within rows given answer (row-at given row within e)
+    rank-is : 1 + given ≡ given + 1
+    rank-is = omega arith
 
-    row-is : answer ≡ get_or rows given answer
-    row-is = sym (get_or_from_slice_get rows given answer answer (row-at given row within e))
+    more : take (given + 1) (rank_lines 1 rows) ≡ take given (rank_lines 1 rows) ++ line ∷ []
+    more =
+        let next : given + 1 ≡ suc given = omega arith in
+        ap (λ n. take n (rank_lines 1 rows)) next ∙ first-lines 1 given rows answer (row-at given row within e)
+        ∙ ap (λ n. take given (rank_lines 1 rows) ++ line_of n answer.score answer.values ∷ []) rank-is
+
+    split : rank_lines 1 rows ≡ take given (rank_lines 1 rows) ++ (line ∷ [] ++ drop (suc given) (rank_lines 1 rows))
+    split =
+        lines-split 1 given rows answer (row-at given row within e)
+        ∙ ap (λ n. take given (rank_lines 1 rows) ++ (line_of n answer.score answer.values ∷ drop (suc given) (rank_lines 1 rows))) rank-is
 
     -- its line is put behind those before it
     pub lines-more : (old middle new : Environment) → HasDone (map Put (take given (rank_lines 1 rows))) old middle → Ran (lines_run (line ∷ [])) (Ok tt) middle new
         → HasDone (map Put (take (given + 1) (rank_lines 1 rows))) old new
     lines-more old middle new has ran =
-        HasDone-line (take (given + 1) (rank_lines 1 rows)) (take given (rank_lines 1 rows)) line old middle new
-        (rank_lines-more 0 rows given answer line row-within row-is refl) has ran
+        HasDone-line (take (given + 1) (rank_lines 1 rows)) (take given (rank_lines 1 rows)) line old middle new more has ran
 
     -- or its put ends the run
     pub lines-broken : (fault : RunFault) (old middle new : Environment) → HasDone (map Put (take given (rank_lines 1 rows))) old middle → Ran (lines_run (line ∷ [])) (Err fault) middle new
         → Ran (lines_run (rank_lines 1 rows)) (Err fault) old new
     lines-broken fault old middle new has ran =
-        Ran-lines (rank_lines 1 rows) (take given (rank_lines 1 rows)) (drop (given + 1) (rank_lines 1 rows)) line fault old middle new
-        (rank_lines-next 0 rows given answer line row-within row-is refl) has ran
+        Ran-lines (rank_lines 1 rows) (take given (rank_lines 1 rows)) (drop (suc given) (rank_lines 1 rows)) line fault old middle new split has ran
 
   -- there was no memory to go on
   pub lines-cut : (given : ℕ) (old new : Environment) → HasDone (map Put (take given (rank_lines 1 rows))) old new → Ran (lines_run (rank_lines 1 rows)) (Err run_faults.memory) old new
@@ -147,7 +155,7 @@ module _ (test : BlockTestState) (limit : Option ℕ) (i : ScanInput) where
       let all = map (answer_for test.catalogue test.block) (answers i) in
       let same : length all ≡ length (answers i) = length-map (answers i) (answer_for test.catalogue test.block) in
       let short : length rows ≤ given = length-cut limit given all (elim ends [ inl e ↦ inl e | inr e ↦ inr (omega arith) ]) (omega arith) in
-      let covered : length (rank_lines 1 rows) ≤ given = omega (arith, length-rank_lines 1 rows) in
+      let covered : length (rank_lines 1 rows) ≤ given = omega (arith, length-lines 1 rows) in
       Ran-all (lines_run (rank_lines 1 rows)) (Ok tt) old new (subst (λ done. HasDone (map Put done) old new) (take_all given (rank_lines 1 rows) covered) has) refl
 
 -- how often the scan was asked in the end
@@ -181,6 +189,10 @@ module _ (test : BlockTestState) (limit : Option ℕ) (i : ScanInput) (scan : Sc
 pub few-answers : (i : ScanInput) → AreRanked i.lists → length (answers i) ≤ rows_in i.lists → length (answers i) < 2 ^ 64 - 1
 few-answers i ranked most = let few = ranked.few in omega arith
 
+-- the same lines, written otherwise
+pub lines-same : (first others : List (List ℕ)) → first ≡ others → (result : Result (Unit {0}) RunFault) (old new : Environment) → Ran (lines_run first) result old new → Ran (lines_run others) result old new
+lines-same first others same result old new ran = subst (λ (lines : List (List ℕ)). Ran (lines_run lines) result old new) same ran
+
 -- lines behind which others are put
 module _ (first more : List (List ℕ)) (old middle new : Environment) where
   pub lines-then : (result : Result (Unit {0}) RunFault) → Ran (lines_run first) (Ok tt) old middle → Ran (lines_run more) result middle new → Ran (lines_run (first ++ more)) result old new
@@ -201,7 +213,7 @@ module _ (i : ScanInput) (asks : ℕ) (scan : Scan) (lists : IndexListsState) (i
   places-are : scan.rounds ≡ depth i asks
   places-are = ap (λ (s : Scan). s.rounds) is.stands.scan_is ∙ ap (depth i) is.asks_are
 
-  accessed : AreAccessed i asks (index_lists_state lists)
+  pub accessed : AreAccessed i asks (index_lists_state lists)
   accessed = subst (λ asks. AreAccessed i asks (index_lists_state lists)) is.asks_are is.stands.accessed
 
   count-lists : length lists.indexes ≡ length i.lists
@@ -224,3 +236,70 @@ module _ (i : ScanInput) (asks : ℕ) (scan : Scan) (lists : IndexListsState) (i
       ap (λ n. accesses_text n sorted random) places-are ∙ ap (λ n. accesses_text (depth i asks) n random) sorted_same ∙ ap (λ n. accesses_text (depth i asks) (length i.lists * depth i asks) n) random_same where
         uncapped : (n sum known : ℕ) → n ≡ min sum (2 ^ 64 - 1) → sum ≡ known → known ≤ 2 ^ 64 - 1 → n ≡ known
         uncapped n sum known e same small = omega arith
+
+-- a scan of a block that gave this many rows and goes on, begun as the first one
+pub record IsAt (test : BlockTestState) (first : Scan) (first_lists : IndexListsState) (given : ℕ) (scan : Scan) (lists : IndexListsState) : Type 0 where
+  pub given_is : scan.given ≡ given
+  pub open_is : scan.ended ≡ false
+  pub scanning : IsScanning test scan lists
+  pub input_same : scan_input test scan lists ≡ scan_input test first first_lists
+  pub lists_same : (index_lists_state lists).lists ≡ (index_lists_state first_lists).lists
+
+module _ (test : BlockTestState) (first : Scan) (first_lists : IndexListsState) (given : ℕ) (scan : Scan) (lists : IndexListsState) (at : IsAt test first first_lists given scan lists) where
+  -- it is asked once more, and what it gives is the next row of the whole
+  module _ (found : Option RankRow) (new : Scan) (new_lists : IndexListsState)
+      (row_is : found ≡ slice_get (answers (scan_input test scan lists)) scan.given)
+      (after : new ≡ scan_after (scan_input test scan lists) (suc scan.given) (if is_some found then scan.given + 1 else scan.given) (is_none found))
+      (stands : Stands (scan_input test scan lists) new (index_lists_state new_lists))
+      (input_is : scan_input test new new_lists ≡ scan_input test scan lists)
+      (lists_are : (index_lists_state new_lists).lists ≡ (index_lists_state lists).lists) where
+    pub next-is : found ≡ slice_get (answers (scan_input test first first_lists)) given
+    next-is = row_is ∙ ap (λ (i : ScanInput). slice_get (answers i) scan.given) at.input_same ∙ ap (slice_get (answers (scan_input test first first_lists))) at.given_is
+
+    pub at-more : (row : RankRow) → found ≡ Some row → IsAt test first first_lists (given + 1) new new_lists
+    at-more row e =
+        let own : new ≡ scan_after (scan_input test scan lists) (suc scan.given) (scan.given + 1) false =
+        after ∙ ap (λ (f : Option RankRow). scan_after (scan_input test scan lists) (suc scan.given) (if is_some f then scan.given + 1 else scan.given) (is_none f)) e in record {
+          given_is = ap (λ (s : Scan). s.given) own ∙ ap (λ n. n + 1) at.given_is;
+          open_is = ap (λ (s : Scan). s.ended) own;
+          scanning = record {
+            entry_is = ap (λ (s : Scan). s.entry) own ∙ at.scanning.entry_is;
+            block_is = ap (λ (s : Scan). s.block) own ∙ at.scanning.block_is;
+            stands = subst (λ (i : ScanInput). Stands i new (index_lists_state new_lists)) (sym input_is) stands;
+            have = subst (λ (i : ScanInput). HaveWeights i) (sym input_is) at.scanning.have;
+            same_rows = at.scanning.same_rows ∙ ap rows_in (sym lists_are);
+          };
+          input_same = input_is ∙ at.input_same;
+          lists_same = lists_are ∙ at.lists_same;
+        }
+
+    -- or there was none: all were given
+    pub at-ended : (limit : Option ℕ) → found ≡ None → scan.given ≡ length (answers (scan_input test scan lists)) → given < most_asks limit
+        → IsAsked (scan_input test first first_lists) (scan_asks limit (scan_input test first first_lists)) new new_lists
+    at-ended limit e ends within =
+        let i = scan_input test first first_lists in
+        let own : new ≡ scan_after i (suc given) given true =
+        after ∙ ap (λ (f : Option RankRow). scan_after (scan_input test scan lists) (suc scan.given) (if is_some f then scan.given + 1 else scan.given) (is_none f)) e
+        ∙ ap (λ (i : ScanInput). scan_after i (suc scan.given) scan.given true) at.input_same ∙ ap (λ n. scan_after i (suc n) n true) at.given_is in
+        let all : given ≡ length (answers i) = sym at.given_is ∙ ends ∙ ap (λ (i : ScanInput). length (answers i)) at.input_same in
+        asked-ended test limit i new new_lists given all within own (subst (λ (i : ScanInput). Stands i new (index_lists_state new_lists)) at.input_same stands)
+        (sym (lists_are ∙ at.lists_same))
+
+  -- it was asked as often as LIMIT says
+  pub at-most : (limit : Option ℕ) → given ≡ most_asks limit → length (answers (scan_input test first first_lists)) < 2 ^ 64 - 1
+      → IsAsked (scan_input test first first_lists) (scan_asks limit (scan_input test first first_lists)) scan lists
+  at-most limit most few =
+      asked-most test limit (scan_input test first first_lists) scan lists (at.given_is ∙ most) at.open_is few
+      (subst (λ (i : ScanInput). Stands i scan (index_lists_state lists)) at.input_same at.scanning.stands) (sym at.lists_same)
+
+  -- the row that it gives is one of the block
+  pub at-row : (catalogue : CatalogDef) (block : Block) → test ≡ record { catalogue = catalogue; block = block } → (row : RankRow)
+      → Some row ≡ slice_get (answers (scan_input test scan lists)) scan.given → IsBlockRow catalogue block row
+  at-row catalogue block is_test row e =
+      let i = scan_input test scan lists in
+      let found = is_row-answer i row (In-slice_get scan.given (answers i) row (sym e)) in
+      let size : size_of catalogue block 1 ≡ rows_in i.lists = ap (λ (t : BlockTestState). size_of t.catalogue t.block 1) (sym is_test) ∙ at.scanning.same_rows in record {
+        number = found.0;
+        is_row = subst (λ (rows : ℕ). IsRow rows found.0) (sym size) found.1;
+        ids_are = ap (λ (r : RankRow). r.ids) found.2 ∙ ap (λ (block : ℕ). ids_at block scan.entry found.0) at.scanning.block_is ∙ ap (λ (entry : ℕ). ids_at 1 entry found.0) at.scanning.entry_is;
+      }

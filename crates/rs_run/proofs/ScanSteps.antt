@@ -1,8 +1,13 @@
 -- What the statements of a script did whose queries are answered by scans, from what their parts did.
-use Rattle.std.proofs.Common.{ℕ, suc, ◌≡◌, ◌∙◌, List, [], ◌∷◌, Some, None, refl, sym, ap, subst, inl, inr}
+use Rattle.std.proofs.Common.{ℕ, ℤ, suc, ◌≡◌, ◌∙◌, List, [], ◌∷◌, Some, None, refl, sym, ap, subst, inl, inr}
 use Rattle.std.specs.Prelude.{IfOk, Option, Result, Ok, Err, option_map}
 use Rattle.rs_value.specs.Answer.{Gives}
-use Rattle.rs_syntax.specs.Syntax.{Ask, Close, Command, CreatePredicate, CreateRankIndex, CreateTable, Declare, Explain, ExplainAnalyze, Insert}
+use Rattle.rs_lex.specs.declared.token.Span.{Span}
+use Rattle.rs_syntax.specs.Syntax.{Ask, Close, Command, CreatePredicate, CreateRankIndex, CreateTable, Declare, Explain, ExplainAnalyze, Insert, command_of}
+use Rattle.rs_syntax.specs.declared.name.Name.{Name}
+use Rattle.rs_syntax.specs.declared.select.Select.{Select}
+use Rattle.rs_syntax.specs.declared.statement.Statement as syntax_statement
+use Rattle.rs_syntax.specs.declared.statement.Statement.TheVariants as syntax_variants
 use Rattle.rs_syntax.specs.Syntax as syntax
 use Rattle.rs_expr.specs.Scoring.{Answering}
 use Rattle.rs_catalog.specs.Catalog.{CatalogDef}
@@ -21,6 +26,7 @@ use Rattle.rs_events.proofs.ToldFacts.{Ran-told_err, Ran-told_ok}
 use Rattle.rs_statement.specs.declared.evaluating.Evaluating.TheVariants.{Plainly}
 use Rattle.rs_statement.specs.declared.fault.Fault.{Fault}
 use Rattle.rs_statement.specs.declared.fault.Fault.TheVariants.{Memory}
+use Rattle.rs_statement.specs.Parts.Session.{IsOfNoCursor}
 use Rattle.rs_statement.specs.Statements.{Does}
 use Rattle.rs_statement.specs.Steps as statement
 use Rattle.rs_statement.specs.Steps.{statement_faults}
@@ -29,6 +35,7 @@ use Rattle.rs_run.specs.declared.fault.RunFault.{RunFault}
 use Rattle.rs_run.specs.declared.fault.RunFault.TheVariants.{NotEligible, Statement}
 use Rattle.rs_run.specs.declared.fault.ScriptWord.TheVariants.{Ta}
 use Rattle.rs_run.specs.Faults.{run_faults}
+use Rattle.rs_run.specs.Parts.Scanning.{Makes}
 use Rattle.rs_run.specs.Threshold.{DoesByScan, DoesNext, ScanState, counted_step, scan_for, scan_lines, scan_of, scan_step, scanned_or}
 use Rattle.rs_run.specs.Told.{told_result, told_step}
 use Rattle.rs_run.proofs.RunFacts.{statement-faults}
@@ -150,3 +157,57 @@ pub Stepped-scanned : (answer : Answering) (number : ℕ) (catalogue : CatalogDe
 Stepped-scanned answer number catalogue block limit indexes result old new eligible ran =
     subst (λ (found : Option (List ℕ)). Stepped run_faults (λ step. step ≡ scan_of answer number catalogue (One block limit) (option_map (block_input catalogue block) found)) catalogue result old new) (sym eligible)
     (Stepped-lines (scan_lines answer catalogue (One block limit) (block_input catalogue block indexes)) catalogue result old new ran)
+
+-- a statement that makes something does what it does under the other words
+module _ (finds : Finds) (answer : Answering) (number : ℕ) (catalogue : CatalogDef) (step : Step RunFault CatalogDef) where
+  pub does-made : (command : Command) → Makes command → IsTold (Does finds answer Plainly catalogue command) step → DoesByScan finds answer number catalogue command step
+  does-made (CreateTable name columns file) makes does = does
+  does-made (CreatePredicate name params max cost formula) makes does = does
+  does-made (CreateRankIndex name table predicate args at) makes does = does
+  does-made (Insert table rows) makes does = does
+  does-made (Ask query) makes does = absurd makes
+  does-made (Declare name query) makes does = absurd makes
+  does-made (syntax.Fetch count name) makes does = absurd makes
+  does-made (Close name) makes does = absurd makes
+  does-made (Explain query) makes does = absurd makes
+  does-made (ExplainAnalyze query) makes does = absurd makes
+
+-- it is of no cursor
+pub made-of_no_cursor : (command : Command) → Makes command → IsOfNoCursor command
+made-of_no_cursor (CreateTable name columns file) makes = tt
+made-of_no_cursor (CreatePredicate name params max cost formula) makes = tt
+made-of_no_cursor (CreateRankIndex name table predicate args at) makes = tt
+made-of_no_cursor (Insert table rows) makes = tt
+made-of_no_cursor (Ask query) makes = absurd makes
+made-of_no_cursor (Declare name query) makes = absurd makes
+made-of_no_cursor (syntax.Fetch count name) makes = absurd makes
+made-of_no_cursor (Close name) makes = absurd makes
+made-of_no_cursor (Explain query) makes = absurd makes
+made-of_no_cursor (ExplainAnalyze query) makes = absurd makes
+
+-- and so is each that is of none of the other forms
+pub makes-others : (s : syntax_statement.Statement) → ((select : Select) → s ≡ syntax_variants.Query select → ⊥) → ((name : Name) (select : Select) → s ≡ syntax_variants.Declare name select → ⊥)
+    → ((count : ℤ × Span) (name : Name) → s ≡ syntax_variants.Fetch count name → ⊥) → ((name : Name) → s ≡ syntax_variants.Close name → ⊥)
+    → ((select : Select) → s ≡ syntax_variants.Explain select → ⊥) → ((select : Select) → s ≡ syntax_variants.ExplainAnalyze select → ⊥) → Makes (command_of s)
+makes-others (syntax_variants.CreateTable name columns file) a b c d e f = tt
+makes-others (syntax_variants.CreatePredicate name params max cost formula) a b c d e f = tt
+makes-others (syntax_variants.CreateRankIndex name table predicate args at) a b c d e f = tt
+makes-others (syntax_variants.Insert table rows) a b c d e f = tt
+makes-others (syntax_variants.Query select) a b c d e f = absurd (a select refl)
+makes-others (syntax_variants.Declare name select) a b c d e f = absurd (b name select refl)
+makes-others (syntax_variants.Fetch count name) a b c d e f = absurd (c count name refl)
+makes-others (syntax_variants.Close name) a b c d e f = absurd (d name refl)
+makes-others (syntax_variants.Explain select) a b c d e f = absurd (e select refl)
+makes-others (syntax_variants.ExplainAnalyze select) a b c d e f = absurd (f select refl)
+
+-- a fact that holds anyway, of a call that ends well
+pub if-ended : {A F : Type 0} (result : Result A F) (P : Type 0) → P → IfOk result (λ _. P)
+if-ended (Ok a) P p = p
+if-ended (Err fault) P p = tt
+
+-- a statement that the word doesn't take
+pub Stepped-untaken : (finds : Finds) (answer : Answering) (number : ℕ) (catalogue : CatalogDef) (command : Command) (why : RunFault) (environment : Environment)
+    → DoesByScan finds answer number catalogue command (still (Err (NotEligible Ta number))) → why ≡ NotEligible Ta number
+    → Stepped run_faults (DoesByScan finds answer number catalogue command) catalogue (Err why) environment environment
+Stepped-untaken finds answer number catalogue command why environment does is =
+    Stepped-still (DoesByScan finds answer number catalogue command) (Err (NotEligible Ta number)) catalogue (Err why) environment does (inr (ap Err (sym is)))

@@ -136,10 +136,10 @@ RunOf-finds {F} {S} {C} a b more state (command ∷ rest) run is = (
   more state command is.0 is.1,
   on is.0.events is.0.outcome (λ next later r. RunOf-finds a b more next rest later r) is.2,
 ) where
-  on : (events : List Event) (outcome : Result S F) → ((next : S) (later : events.Run F) → RunOf a next rest later → RunOf b next rest later)
-      → RunsOn (λ next more. RunOf a next rest more) events outcome run → RunsOn (λ next more. RunOf b next rest more) events outcome run
-  on events (Err fault) turn r = r
-  on events (Ok next) turn r = (r.0, turn next r.0 r.1, r.2)
+  on : (made : List Event) (outcome : Result S F) → ((next : S) (later : events.Run F) → RunOf a next rest later → RunOf b next rest later)
+      → RunsOn (λ next more. RunOf a next rest more) made outcome run → RunsOn (λ next more. RunOf b next rest more) made outcome run
+  on made (Err fault) turn r = r
+  on made (Ok next) turn r = (r.0, turn next r.0 r.1, r.2)
 
 -- a fetch that did not go well, told as one of another type of faults
 FetchesFile-told : {F A : Type 0} (told : Fault → F) (memory : F) (Tells : F → Type 0) (name : List ℕ) → told Memory ≡ memory → ((fault : Fault) → statement_faults.IsFailedFetch name fault → Tells (told fault))
@@ -150,9 +150,9 @@ FetchesFile-told {F} {A} told memory Tells name memory_is tell fault gives old n
       none : ◌≡◌ {A = Result A Fault} (Err fault) (Err Memory) → ◌≡◌ {A = Result A F} (Err (told fault)) (Err memory)
       none e = ap Err (ap told (let same : fault ≡ Memory = cc in same) ∙ memory_is)
 
-      go : (NotFetched {A = A} Memory (Err fault) old new ⊎ FetchFails {A = A} Memory (statement_faults.IsFailedFetch name) name (Err fault) old new) ⊎ Fetched Memory name (gives f.there) (Err fault) old new
+      go : (NotFetched {A = A} Memory (Err fault) old new ⊎ FetchFails {A = A} Memory (statement_faults.IsFailedFetch name) name (Err fault) old new) ⊎ Fetched {A = A} Memory name (gives f.there) (Err fault) old new
           → (NotFetched {A = A} memory (Err (told fault)) old new ⊎ FetchFails {A = A} memory Tells name (Err (told fault)) old new)
-          ⊎ Fetched memory name (λ r. gives f.there (Err fault) × (r ≡ Err (told fault))) (Err (told fault)) old new
+          ⊎ Fetched {A = A} memory name (λ r. gives f.there (Err fault) × (r ≡ Err (told fault))) (Err (told fault)) old new
       go (inl (inl nothing)) = inl (inl (record { same = nothing.same; answers = none nothing.answers }))
       go (inl (inr failed)) = inl (inr (record {
         fetched = failed.fetched;

@@ -19,7 +19,7 @@ ghost use Rattle.rs_events.specs.Running.{Ran, Runs, Stepped};
 ghost use Rattle.rs_statement.specs.Lines.{rank_lines};
 ghost use Rattle.rs_statement.specs.Statements.{or_bind_fault};
 ghost use Rattle.rs_run.specs.Faults.{run_faults};
-ghost use Rattle.rs_run.specs.Parts.Scanning.{IsAsked, IsBlockRow, IsScanning, IsUnasked, accesses_text, most_asks, scan_input, scanned_rows};
+ghost use Rattle.rs_run.specs.Parts.Scanning.{IsAsked, IsBlockRow, IsScanning, IsUnasked, Makes, accesses_text, most_asks, scan_input, scanned_rows};
 ghost use Rattle.rs_run.specs.Plain.{TextRuns};
 ghost use Rattle.rs_run.specs.Running.{IsFormRun};
 ghost use Rattle.rs_run.specs.Threshold.{DoesByScan, ScansRun, access_line, scan_asks, scan_lines, scan_step, scanned_step};
@@ -129,15 +129,33 @@ fn scan_statement<T: TableReader, W: Host>(
 {
     match statement {
         Statement::Query(select) => scan_query(alloc, number, select, catalog, host),
-        Statement::CreateTable { .. }
-        | Statement::CreatePredicate { .. }
-        | Statement::CreateRankIndex { .. }
-        | Statement::Insert { .. } => {
-            run_without_cursor(alloc, Evaluating::Plainly, statement, catalog, tables, host)?;
-            Ok(())
-        }
-        _ => Err(not_eligible(number)),
+        Statement::Declare { .. } => Err(not_eligible(number)),
+        Statement::Fetch { .. } => Err(not_eligible(number)),
+        Statement::Close { .. } => Err(not_eligible(number)),
+        Statement::Explain(_) => Err(not_eligible(number)),
+        Statement::ExplainAnalyze(_) => Err(not_eligible(number)),
+        _ => make(alloc, statement, catalog, tables, host),
     }
+}
+
+/// Runs a statement that makes a table, a predicate, an index or rows, as under the other words.
+fn make<T: TableReader, W: Host>(
+    alloc: Global,
+    statement: &Statement,
+    catalog: &mut Catalog,
+    tables: &mut T,
+    host: &mut W,
+) -> Result<(), RunFault>
+    requires makes { Makes (command_of statement.now) }
+    requires written { IsWritten (command_of statement.now) }
+    requires held { IndexesHold (W.state host.old).scorer.answer catalog.old }
+    ensures does { (number : ℕ) → Stepped run_faults
+        (DoesByScan (finds_in (W.state host.old).files.told) (W.state host.old).scorer.answer number catalog.old (command_of statement.now)) catalog.new result
+        (W.state host.old) (W.state host.new) }
+    ensures held { IfOk result (λ _. IndexesHold (W.state host.old).scorer.answer catalog.new) }
+{
+    run_without_cursor(alloc, Evaluating::Plainly, statement, catalog, tables, host)?;
+    Ok(())
 }
 
 /// Puts the rows of a query, the statement of this number, and the line of its accesses. It is bound first.

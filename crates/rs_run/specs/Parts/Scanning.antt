@@ -3,6 +3,7 @@ use Rattle.std.specs.Prelude.{ℕ, ◌≡◌, ◌-◌, ◌^◌, false, List, [],
 use Rattle.std.specs.Fmt.{decimal}
 use Rattle.rs_rank.specs.declared.answer.Answer.{Answer}
 use Rattle.rs_rank.specs.declared.row.RankRow.{RankRow}
+use Rattle.rs_syntax.specs.Syntax.{Command, CreatePredicate, CreateRankIndex, CreateTable, Insert}
 use Rattle.rs_catalog.specs.Catalog.{CatalogDef}
 use Rattle.rs_query.specs.Answers.{cut}
 use Rattle.rs_query.specs.Tables.{size_of}
@@ -13,6 +14,14 @@ use Rattle.rs_ta.specs.Eligible.{answer_for}
 use Rattle.rs_ta.specs.IndexLists.{IndexListsState, index_lists_state}
 use Rattle.rs_ta.specs.Lists.{IsRow, rows_in}
 use Rattle.rs_ta.specs.Scans.{HaveWeights, Scan, Stands, asks_of, input_of}
+
+-- a statement that makes a table, a predicate, an index or rows
+abbrev pub Makes : Command → Type 0
+Makes (CreateTable name columns file) = Unit {0}
+Makes (CreatePredicate name params max cost formula) = Unit {0}
+Makes (CreateRankIndex name table predicate args at) = Unit {0}
+Makes (Insert table rows) = Unit {0}
+Makes _ = ⊥
 
 -- what the scan of a block is over, whose conditions are this test
 abbrev pub scan_input : BlockTestState → Scan → IndexListsState → ScanInput

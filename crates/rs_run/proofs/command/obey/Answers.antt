@@ -16,8 +16,8 @@ returns-in_err-top-in-Top g c =
       unfetched = λ number rows generated. absurd cc;
     })
 
-pub returns-in-Top : goal.returns-in-Top
-returns-in-Top g c = rw c.in-Top.is (record {
+pub returns-in_ok-top-in-Top : goal.returns-in_ok-top-in-Top
+returns-in_ok-top-in-Top g c = rw c.in-Top.is (record {
   does = λ beside. Runs-told_ok (finds_in (g.F.Files.state c.args.files.now).told) (g.S.Scorer.state c.args.scorer.now).answer (form_of_command_line (command.Top c.in-Top.words))
       (record beside { files = g.F.Files.state c.args.files.now; scorer = g.S.Scorer.state c.args.scorer.now; out = g.O.Sink.state c.args.out.now })
       (record beside { files = g.F.Files.state c.top.new.files; scorer = g.S.Scorer.state c.args.scorer.now; out = g.O.Sink.state c.top.new.out }) (c.in_ok-top-in-Top.ensures (record beside { files = g.F.Files.state c.args.files.now; scorer = g.S.Scorer.state c.args.scorer.now; out = g.O.Sink.state c.args.out.now }));
@@ -33,8 +33,8 @@ returns-in_err-run_script-in-RunScript g c =
       unfetched = λ number rows generated. absurd cc;
     })
 
-pub returns-in-RunScript : goal.returns-in-RunScript
-returns-in-RunScript g c = rw c.in-RunScript.is (record {
+pub returns-in_ok-run_script-in-RunScript : goal.returns-in_ok-run_script-in-RunScript
+returns-in_ok-run_script-in-RunScript g c = rw c.in-RunScript.is (record {
   does = λ beside. Runs-told_ok (finds_in (g.F.Files.state c.args.files.now).told) (g.S.Scorer.state c.args.scorer.now).answer (form_of_command_line (command.RunScript c.in-RunScript.script c.in-RunScript.evaluating))
       (record beside { files = g.F.Files.state c.args.files.now; scorer = g.S.Scorer.state c.args.scorer.now; out = g.O.Sink.state c.args.out.now })
       (record beside { files = g.F.Files.state c.run_script.new.files; scorer = g.S.Scorer.state c.run_script.new.scorer; out = g.O.Sink.state c.run_script.new.out }) (c.in_ok-run_script-in-RunScript.ensures beside);
@@ -50,8 +50,8 @@ returns-in_err-run_generated-in-RunGenerated g c =
       unfetched = λ number rows generated. refl;
     })
 
-pub returns-in-RunGenerated : goal.returns-in-RunGenerated
-returns-in-RunGenerated g c = rw c.in-RunGenerated.is (record {
+pub returns-in_ok-run_generated-in-RunGenerated : goal.returns-in_ok-run_generated-in-RunGenerated
+returns-in_ok-run_generated-in-RunGenerated g c = rw c.in-RunGenerated.is (record {
   does = λ beside. Runs-told_ok (finds_in (g.F.Files.state c.args.files.now).told) (g.S.Scorer.state c.args.scorer.now).answer (form_of_command_line (command.RunGenerated c.in-RunGenerated.number c.in-RunGenerated.rows))
       (record beside { files = g.F.Files.state c.args.files.now; scorer = g.S.Scorer.state c.args.scorer.now; out = g.O.Sink.state c.args.out.now })
       (record beside { files = g.F.Files.state c.args.files.now; scorer = g.S.Scorer.state c.run_generated.new.scorer; out = g.O.Sink.state c.run_generated.new.out }) (c.in_ok-run_generated-in-RunGenerated.ensures (record beside { files = g.F.Files.state c.args.files.now }));

@@ -28,7 +28,7 @@ returns g c = λ beside i asks is.
     let state = index_lists_state lists in
     let had = accessed i asks scan lists is in
     let ranked = subst AreRanked (sym is.lists_are) c.lists.ensures.ranked in
-    let text = line-is i asks scan lists is c.counts.result.0 c.counts.result.1 c.lists.ensures.ranked c.counts.ensures.sorted c.counts.ensures.random
+    let text = line-is i asks scan lists is c.counts-sorted.result.0 c.counts-sorted.result.1 c.lists.ensures.ranked c.counts-sorted.ensures.sorted c.counts-sorted.ensures.random
     (sums.sorted i asks state had) (sums.random i asks state had) (sums.few_sorted i asks ranked) (sums.few_random i asks ranked) in
     subst (λ line. Ran run_faults (lines_run (line ∷ [])) c.put_text.result (record beside { out = g.O.Sink.state c.args.out.now }) (record beside { out = g.O.Sink.state c.put_text.new.out }))
-    (c.as_bytes.ensures.value ∙ c.in_ok-line.ensures ∙ ap (λ depth. accesses_text depth c.counts.result.0 c.counts.result.1) c.depth.ensures ∙ text) (c.put_text.ensures beside)
+    (c.as_bytes.ensures.value ∙ c.in_ok-line.ensures ∙ ap (λ depth. accesses_text depth c.counts-sorted.result.0 c.counts-sorted.result.1) c.depth.ensures ∙ text) (c.put_text.ensures beside)

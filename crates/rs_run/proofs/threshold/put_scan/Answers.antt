@@ -22,7 +22,7 @@ returns-in_err-put_scanned_rows g c = λ beside.
     let old = record beside { out = g.O.Sink.state c.args.out.now } in
     let new = record beside { out = g.O.Sink.state c.put_scanned_rows.new.out } in
     subst (λ result. Ran run_faults (lines_run (rows ++ last)) result old new) (sym (given-err c.from_residual.result c.in_err-put_scanned_rows.field-0.0 c.from_residual.ensures))
-    (lines-stop rows last old new c.in_err-put_scanned_rows.field-0.0 (c.in_err-put_scanned_rows.ensures.puts beside))
+    (lines-stop rows last old new new c.in_err-put_scanned_rows.field-0.0 (c.in_err-put_scanned_rows.ensures.puts beside))
 
 pub returns : goal.returns
 returns g c = λ beside.

@@ -21,7 +21,6 @@ outputs-requires g c =
     let catalogue = c.args.catalog.now in
     let block = c.args.block.now in
     let row = c.requires.row in
-    let one : 1 ≡ 2 ^ 1 - 1 = refl in
     let inside : is_inside (entries_mask block.items) 1 ≡ true =
     ap (is_inside (entries_mask block.items)) (ap (λ n. 2 ^ n - 1) (sym c.requires.one_entry)) ∙ items-inside catalogue block c.requires.formed in record {
       block = subst (λ (seen : CatalogDef). IsBlock seen block) (sym c.current.ensures) c.requires.formed;
@@ -48,6 +47,6 @@ returns g c = λ beside.
     let values : c.deref.result.now ≡ outputs_of c.args.catalog.now c.args.block.now row.ids.rows =
     c.deref.ensures.value ∙ c.in_ok-values.ensures ∙ ap (λ (seen : CatalogDef). outputs_of seen c.args.block.now row.ids.rows) c.current.ensures in
     let line : c.in_ok-line.line.now ≡ line_of c.args.rank row.sum (outputs_of c.args.catalog.now c.args.block.now row.ids.rows) =
-    c.in_ok-line.ensures ∙ ap (line_of c.args.rank row.sum) values in
+    c.in_ok-line.ensures ∙ ap (line_of c.from.result row.sum) values ∙ ap (λ n. line_of n row.sum (outputs_of c.args.catalog.now c.args.block.now row.ids.rows)) c.from.ensures in
     subst (λ line. Ran run_faults (lines_run (line ∷ [])) c.put_text.result (record beside { out = g.O.Sink.state c.args.out.now }) (record beside { out = g.O.Sink.state c.put_text.new.out })) line
     (c.put_text.ensures beside)

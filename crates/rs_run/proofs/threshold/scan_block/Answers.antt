@@ -5,9 +5,12 @@ use Rattle.rs_order.proofs.EachFacts.{each-weaker}
 use Rattle.rs_rank.specs.declared.answer.Answer.{Answer}
 use Rattle.rs_rank.specs.declared.weights.Weights.{Weights}
 use Rattle.rs_query.specs.Answers.{answer_of, weights_of}
+use Rattle.rs_query.specs.Views.{all_rows}
 use Rattle.rs_query.specs.WellFormed.{IsTerm}
+use Rattle.rs_query.specs.declared.query.Query.TheVariants.{One}
 use Rattle.rs_query.specs.declared.term.Term.{Term}
 use Rattle.rs_ta.specs.BlockTests.{BlockTestState, holds_on}
+use Rattle.rs_ta.specs.Depths.{ScanInput}
 use Rattle.rs_ta.specs.Eligible.{block_input}
 use Rattle.rs_ta.specs.IndexLists.{IndexListsState, index_lists_state, new_index_lists}
 use Rattle.rs_ta.specs.Scans.{Scan, new_scan}
@@ -17,7 +20,8 @@ use Rattle.rs_events.specs.Running.{Ran}
 use Rattle.rs_statement.specs.Lines.{rank_lines}
 use Rattle.rs_run.specs.Faults.{run_faults}
 use Rattle.rs_run.specs.Parts.Scanning.{IsScanning, IsUnasked, scan_input, scanned_rows}
-use Rattle.rs_run.specs.Threshold.{access_line, scan_asks}
+use Rattle.rs_run.specs.Threshold.{access_line, scan_asks, scan_lines}
+use Rattle.rs_run.proofs.ScanFacts.{lines-same}
 use Rattle.rs_run.proofs.threshold.scan_block.Goals as goal
 
 -- no list had an access at first
@@ -46,8 +50,8 @@ pub weights-requires-clause-limits : goal.weights-requires-clause-limits
 weights-requires-clause-limits g c =
     each-weaker (IsTerm c.args.catalog.now c.args.block.now) (λ (t : Term). t.weight ≤ 1000000) (λ t is. is.most_weight) c.args.block.now.terms c.requires.formed.terms
 
-pub put_scan-requires : goal.put_scan-requires
-put_scan-requires g c =
+pub put_scan-put-requires : goal.put_scan-put-requires
+put_scan-put-requires g c =
     let catalogue = c.args.catalog.now in
     let block = c.args.block.now in
     let indexes = c.args.indexes.items in
@@ -71,3 +75,26 @@ put_scan-requires g c =
           (subst (λ (own : BlockTestState). IsScanning own (new_scan (weights_of block) 1 1) lists) (sym c.new-test.ensures) start));
       unasked = subst IsUnasked (sym scan) (record { given = refl; open_is = refl });
     }
+
+pub returns : goal.returns
+returns g c =
+    let catalogue = c.args.catalog.now in
+    let block = c.args.block.now in
+    let indexes = c.args.indexes.items in
+    let limit = c.args.limit in
+    let old = g.W.Host.state c.args.host.now in
+    let answer = old.scorer.answer in
+    let scan : c.new-scan.result ≡ new_scan (weights_of block) 1 1 = c.new-scan.ensures ∙ ap (λ (weights : Weights). new_scan weights 1 1) c.weights.ensures.value in
+    let input : scan_input c.new-test.result c.new-scan.result c.new-lists.result ≡ block_input catalogue block indexes =
+    ap (λ (scan : Scan). scan_input c.new-test.result scan c.new-lists.result) scan
+    ∙ ap (λ (own : IndexListsState). scan_input c.new-test.result (new_scan (weights_of block) 1 1) own) c.new-lists.ensures
+    ∙ ap (λ (own : BlockTestState). scan_input own (new_scan (weights_of block) 1 1) (new_index_lists catalogue indexes)) c.new-test.ensures in
+    let rows : scanned_rows c.new-test.result limit (block_input catalogue block indexes) ≡ answer_of answer catalogue (One block limit) (all_rows catalogue (One block limit)) =
+    ap (λ (own : BlockTestState). scanned_rows own limit (block_input catalogue block indexes)) c.new-test.ensures
+    ∙ c.threshold_scans_give_the_answer.ensures.answer answer catalogue block limit indexes c.requires.formed c.requires.eligible (held-indexes answer catalogue indexes c.requires.held) in
+    let lines : rank_lines 1 (scanned_rows c.new-test.result limit (scan_input c.new-test.result c.new-scan.result c.new-lists.result))
+    ++ access_line (scan_input c.new-test.result c.new-scan.result c.new-lists.result) (scan_asks limit (scan_input c.new-test.result c.new-scan.result c.new-lists.result)) ∷ []
+    ≡ scan_lines answer catalogue (One block limit) (block_input catalogue block indexes) =
+    ap (λ (i : ScanInput). rank_lines 1 (scanned_rows c.new-test.result limit i) ++ access_line i (scan_asks limit i) ∷ []) input
+    ∙ ap (λ (rows : List Answer). rank_lines 1 rows ++ access_line (block_input catalogue block indexes) (scan_asks limit (block_input catalogue block indexes)) ∷ []) rows in
+    rw g.met.W.Host.after_out (lines-same _ _ lines c.put_scan-put.result old _ (rw c.out.ensures.value at c.put_scan-put.ensures old))

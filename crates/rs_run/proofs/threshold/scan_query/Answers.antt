@@ -1,4 +1,4 @@
-use Rattle.std.proofs.Common.{sym, subst}
+use Rattle.std.proofs.Common.{◌≡◌, sym, subst}
 use Rattle.rs_value.proofs.ResultFacts.{given-err}
 use Rattle.rs_syntax.specs.Syntax.{query_of}
 use Rattle.rs_bind.specs.Queries.{bound_query}
@@ -21,5 +21,5 @@ returns-in_err-query g c =
 pub returns : goal.returns
 returns g c =
     let old = g.W.Host.state c.args.host.now in
-    Stepped-bound old.scorer.answer c.args.number c.args.catalog.now (or_bind_fault (bound_query c.args.catalog.now (query_of c.args.select.now))) c.in_ok-query.query c.scan_bound.result old _
-    c.in_ok-query.ensures.gives c.scan_bound.ensures
+    Stepped-bound old.scorer.answer c.args.number c.args.catalog.now (or_bind_fault (bound_query c.args.catalog.now (query_of c.args.select.now))) c.in_ok-query.query c.scan_bound-done.result old _
+    c.in_ok-query.ensures.gives c.scan_bound-done.ensures

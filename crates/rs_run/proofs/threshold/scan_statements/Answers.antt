@@ -15,16 +15,16 @@ loop-index-init g c =
     let old = g.W.Host.state c.args.host.now in
     let does = DoesNext (finds_in old.files.told) old.scorer.answer in
     let commands = commands_of c.args.statements.now in
-    let starts : ◌≡◌ {A = ScanState} first_statement (record { number = 1; catalogue = c.new.result }) = λ i. record { number = 1; catalogue = sym c.new.ensures i } in record {
+    let starts : ◌≡◌ {A = ScanState} first_statement (record { number = 1; catalogue = c.new-catalog.result }) = λ i. record { number = 1; catalogue = sym c.new-catalog.ensures i } in record {
       between = subst (λ (state : ScanState). Between does first_statement commands 0 state old old) starts (Between-start does first_statement commands old);
       statements_same = refl;
-      held = subst (IndexesHold old.scorer.answer) (sym c.new.ensures) tt;
+      held = subst (IndexesHold old.scorer.answer) (sym c.new-catalog.ensures) tt;
     }
 
 pub scan_statement-requires : goal.scan_statement-requires
 scan_statement-requires g c =
     let same = sym c.loop-index.invariant.between.has.keeps.scorer.answer in record {
-      written = written-at c.args.statements.now c.loop-index.index c.index-statements-index.result c.loop-index-test.true c.index-statements-index.is c.requires;
+      written = written-at c.args.statements.now c.loop-index.index c.index-statements-index.result c.loop-index-test.true c.index-statements-index.is c.requires.written;
       held = subst (λ answer. IndexesHold answer c.loop-index.catalog) same c.loop-index.invariant.held;
     }
 
@@ -33,13 +33,13 @@ returns-in-Err g c =
     let old = g.W.Host.state c.args.host.now in
     let between = c.loop-index.invariant.between in
     let i = c.loop-index.index in
-    let state : ScanState = record { number = suc i; catalogue = c.loop-index.catalog } in
-    let next : ScanState = record { number = suc (suc i); catalogue = c.scan_statement.new.catalog } in
+    let state : ScanState = record { number = i + 1; catalogue = c.loop-index.catalog } in
+    let next : ScanState = record { number = suc (i + 1); catalogue = c.scan_statement.new.catalog } in
     Runs-stops (DoesNext (finds_in old.files.told) old.scorer.answer) first_statement (commands_of c.args.statements.now)
     (drop (suc i) (commands_of c.args.statements.now)) (command_of c.index-statements-index.result) i state next old _ _ between
     (drop-at command_of c.args.statements.now i c.index-statements-index.result c.loop-index-test.true c.index-statements-index.is)
     (each_next (finds_in old.files.told) (finds_in-has old.files.told) old.scorer.answer) c.in-Err.fault
-    (Stepped-next between.made (suc i) (suc (suc i)) c.loop-index.catalog c.scan_statement.new.catalog (command_of c.index-statements-index.result) (Err c.in-Err.fault) old _ _ refl between.has
+    (Stepped-next between.made (i + 1) (suc (i + 1)) c.loop-index.catalog c.scan_statement.new.catalog (command_of c.index-statements-index.result) (Err c.in-Err.fault) old _ _ refl between.has
     c.in-Err.ensures.does)
 
 pub loop-index-preserved : goal.loop-index-preserved
@@ -47,14 +47,14 @@ loop-index-preserved g c =
     let old = g.W.Host.state c.args.host.now in
     let between = c.loop-index.invariant.between in
     let i = c.loop-index.index in
-    let state : ScanState = record { number = suc i; catalogue = c.loop-index.catalog } in
-    let next : ScanState = record { number = suc (i + 1); catalogue = c.scan_statement.new.catalog } in
-    let number : suc (i + 1) ≡ suc (suc i) = omega arith in record {
+    let state : ScanState = record { number = i + 1; catalogue = c.loop-index.catalog } in
+    let next : ScanState = record { number = i + 1 + 1; catalogue = c.scan_statement.new.catalog } in
+    let number : i + 1 + 1 ≡ suc (i + 1) = omega arith in record {
       between = Between-next (DoesNext (finds_in old.files.told) old.scorer.answer) first_statement (commands_of c.args.statements.now)
           (drop (suc i) (commands_of c.args.statements.now)) (command_of c.index-statements-index.result) i state next old _ _ between
           (drop-at command_of c.args.statements.now i c.index-statements-index.result c.loop-index-test.true c.index-statements-index.is)
           (i + 1) (omega arith) refl
-          (Stepped-next between.made (suc i) (suc (i + 1)) c.loop-index.catalog c.scan_statement.new.catalog (command_of c.index-statements-index.result) (Ok tt) old _ _ number between.has
+          (Stepped-next between.made (i + 1) (i + 1 + 1) c.loop-index.catalog c.scan_statement.new.catalog (command_of c.index-statements-index.result) (Ok tt) old _ _ number between.has
           c.in-Ok.ensures.does);
       statements_same = refl;
       held = subst (λ answer. IndexesHold answer c.scan_statement.new.catalog) between.has.keeps.scorer.answer c.in-Ok.ensures.held;
@@ -64,5 +64,5 @@ pub returns : goal.returns
 returns g c =
     let old = g.W.Host.state c.args.host.now in
     Runs-all (DoesNext (finds_in old.files.told) old.scorer.answer) first_statement (commands_of c.args.statements.now) c.loop-index.index
-    (record { number = suc c.loop-index.index; catalogue = c.loop-index.catalog }) old _
+    (record { number = c.loop-index.index + 1; catalogue = c.loop-index.catalog }) old _
     (drop-all command_of c.args.statements.now c.loop-index.index c.loop-index-test.false) c.loop-index.invariant.between
