@@ -242,7 +242,7 @@ CREATE RANK INDEX px ON t (p(x));
 SELECT x FROM t ORDER BY p(x) + q(y, 'a') LIMIT 2;
 SQL
 printf '1,17,8\n2,13,10\n' >asked.wanted
-# The two feeds whose join docs/FORMATS.md shows.
+# The two feeds that checks/program.sh joins.
 printf 'key,score\na,9\nb,8\na,7\nc,5\nb,1\n' >fl.csv
 printf 'key,score\nb,9\na,6\nc,6\na,2\nd,1\n' >fr.csv
 printf '1,17,b,8,9\n2,15,a,9,6\n3,13,a,7,6\n4,11,a,9,2\n5,11,c,5,6\n6,10,b,1,9\n7,9,a,7,2\nleft=6 right=6\n' >feed.wanted
