@@ -15,7 +15,7 @@ use Rattle.std.proofs.lemmas.Map.Keys.{IsDistinct-IsPermutation, apart_from_dist
 use Rattle.rs_order.specs.Climbing.{Climbs, Differs, HasDistinctKeys, In, IsBeyond, Precedes}
 use Rattle.rs_order.proofs.ClimbingFacts.{AllByRecursion-In, AllByRecursion-from_In, Climbs-shared, cmp-not_itself}
 use Rattle.rs_order.proofs.EachFacts.{each-weaker}
-use Rattle.rs_order.proofs.PartFacts.{Climbs-parts, Climbs-take, IsBeyond-shared, In-parts, In-take}
+use Rattle.rs_order.proofs.PartFacts.{Climbs-at, Climbs-parts, Climbs-take, IsBeyond-shared, In-parts, In-take}
 
 -- what a list has, it has in another order
 pub In-moved : {X : Type 0} (xs ys : List X) → IsPermutation xs ys → (z : X) → In z xs → In z ys
@@ -128,3 +128,9 @@ module _ {X K : Type 0} (cmp : K → K → Ordering) (o : IsTotalOrder cmp) (key
   pub Climbs-ordered : (xs ordered : List X) → HasDistinctKeys cmp key xs → IsPermutation xs ordered → IsSortedByKey key cmp ordered → Climbs cmp key ordered
   Climbs-ordered xs ordered differ moved sorted =
       Climbs-once ordered sorted (IsDistinct-IsPermutation same_key same_key-flips xs ordered moved (distinct xs differ))
+
+  -- items that climb are in order
+  pub Climbs-in_order : (xs : List X) → Climbs cmp key xs → IsSortedByKey key cmp xs
+  Climbs-in_order xs climbs = λ k d low within.
+      let less : cmp (key (get_or xs k d)) (key (get_or xs (k + 1) d)) ≡ Less = Climbs-at cmp key xs k (k + 1) d climbs (omega arith) within in
+      ap is_lt (o.antisymm (key (get_or xs (k + 1) d)) (key (get_or xs k d)) ∙ ap ordering_reverse less)

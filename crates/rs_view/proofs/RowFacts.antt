@@ -19,7 +19,7 @@ use Rattle.rs_rank.proofs.OrderFacts.{IsTied-parts, key_cmp-total}
 use Rattle.rs_rank.proofs.SortedFacts.{stable-by_score}
 use Rattle.rs_expr.specs.Scoring.{Answering}
 use Rattle.rs_catalog.specs.Catalog.{CatalogDef}
-use Rattle.rs_query.specs.Answers.{answer_row, base_of, cut, distinct_if}
+use Rattle.rs_query.specs.Answers.{answer_of, answer_row, base_of, cut, distinct_if}
 use Rattle.rs_query.specs.Blocks.{block_in}
 use Rattle.rs_query.specs.Combinations.{all_combinations, combinations}
 use Rattle.rs_query.specs.Fresh.{has_new_row}
@@ -31,11 +31,11 @@ use Rattle.rs_query.specs.declared.query.Query.{Query}
 use Rattle.rs_query.specs.declared.query.Query.TheVariants.{One, Set}
 use Rattle.rs_query.proofs.RiseFacts.{Rise, Rise-base, ids_of}
 use Rattle.rs_plain.specs.Ordering.{key_of_answer}
-use Rattle.rs_plain.proofs.OrderFacts.{Climbs-stable}
+use Rattle.rs_plain.proofs.OrderFacts.{Climbs-answer, Climbs-stable}
 use Rattle.rs_view.specs.Fresh.{fresh, fresh_rows}
-use Rattle.rs_view.specs.Keeping.{AreFirst}
+use Rattle.rs_view.specs.Keeping.{AreFirst, AreKept}
 use Rattle.rs_view.specs.Views.{IsKeepable, kept_rows, most_kept}
-use Rattle.rs_view.proofs.MergeFacts.{Climbs-ordered, In-moved, first-both}
+use Rattle.rs_view.proofs.MergeFacts.{Climbs-in_order, Climbs-ordered, In-moved, first-both}
 use Rattle.rs_view.proofs.SplitFacts.{fresh-new, joined, no_lengths, none-old, old-no_new, old_combinations, split}
 
 -- what a function gives of the items that pass a test
@@ -207,3 +207,15 @@ kept-none answer catalogue (One block limit) formed all =
     take-none zero = refl
     take-none (suc n) = refl
 kept-none answer catalogue (Set op left right limit) formed all = absurd all
+
+-- what a view has is in order, and no more than it may have
+pub kept-in_order : (answer : Answering) (catalogue : CatalogDef) (query : Query) (lengths : List ℕ) (rows : List Answer) → rows ≡ kept_rows answer catalogue query lengths
+    → AreKept (most_kept query) rows
+kept-in_order answer catalogue query lengths rows kept =
+    let all = answer_of answer catalogue query (record { first = lengths; second = [] }) in
+    record {
+      sorted = Climbs-in_order key_cmp key_cmp-total key_of_answer rows
+          (subst (Climbs key_cmp key_of_answer) (sym kept)
+          (Climbs-take key_cmp key_of_answer (most_kept query) all (Climbs-answer answer catalogue query (record { first = lengths; second = [] }))));
+      few = kept ∙ sym (take-take (most_kept query) (most_kept query) all (omega arith)) ∙ ap (take (most_kept query)) (sym kept);
+    }

@@ -11,3 +11,8 @@ pub record AreFirst (most : ℕ) (all rows : List Answer) : Type 0 where
   pub moved : IsPermutation all ordered
   pub sorted : IsSortedByKey key_of_answer key_cmp ordered
   pub first : rows ≡ take most ordered
+
+-- rows that are in the order of keys already, at most so many
+pub record AreKept (most : ℕ) (rows : List Answer) : Type 0 where
+  pub sorted : IsSortedByKey key_of_answer key_cmp rows
+  pub few : rows ≡ take most rows

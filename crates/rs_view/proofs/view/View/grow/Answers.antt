@@ -7,9 +7,10 @@ use Rattle.rs_query.specs.WellFormed.{IsBlock, IsQuery}
 use Rattle.rs_query.proofs.BlockFacts.{block-formed}
 use Rattle.rs_plain.specs.declared.fault.PlainFault.TheVariants.{Memory}
 use Rattle.rs_value.proofs.ResultFacts.{given-err}
-use Rattle.rs_view.specs.Keeping.{AreFirst}
+use Rattle.rs_view.specs.Keeping.{AreFirst, AreKept}
 use Rattle.rs_view.specs.Views.{Stands, ViewDef, most_kept}
 use Rattle.rs_view.proofs.GrowFacts.{Asks-seen, Grown, Grown-done, Grown-failed, Grown-stopped}
+use Rattle.rs_view.proofs.RowFacts.{kept-in_order}
 use Rattle.rs_view.proofs.view.View.grow.Goals as goal
 
 pub fresh_rows-requires : goal.fresh_rows-requires
@@ -22,6 +23,14 @@ sizes_of-lengths-requires g c =
     subst (λ (seen : CatalogDef). IsBlock seen c.block_in.result.now) (sym c.current-catalog.ensures)
     (subst (IsBlock c.args.catalog.now) (sym c.block_in.ensures)
     (block-formed c.args.catalog.now c.self.inside.query 1 (subst (λ (v : ViewDef). IsQuery c.args.catalog.now v.query) (sym c.self.view_is) c.requires.query)))
+
+pub keep_first-requires : goal.keep_first-requires
+keep_first-requires g c =
+    let before = g.S.Scorer.state c.args.scorer.now in
+    let stood = subst (Stands before.answer c.args.catalog.now) (sym c.self.view_is) c.requires in
+    let many : c.most-most.result ≡ most_kept c.self.inside.query = first_of (cc (c.most-most.ensures), cc (c.most-most.ensures, ap (λ (v : ViewDef). most_kept v.query) (sym c.self.view_is))) in
+    subst (λ (most : ℕ). AreKept most c.self.inside.rows.items) (sym many)
+    (kept-in_order before.answer c.args.catalog.now c.self.inside.query c.self.inside.lengths c.self.inside.rows.items stood.rows)
 
 pub returns-in_err-more : goal.returns-in_err-more
 returns-in_err-more g c =
