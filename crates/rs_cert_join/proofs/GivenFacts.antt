@@ -1,13 +1,13 @@
 -- The next pair of a join is behind those that it gave before.
-use Rattle.std.proofs.Common.{◌≡◌, ℕ, suc, true, List, [], ◌∷◌, ◌++◌, find, map, take, Option, Some, None, Result, Ok, Err, slice_get, refl, sym, ap, ◌∙◌, subst}
+use Rattle.std.proofs.Common.{◌≡◌, ℕ, true, List, [], ◌∷◌, ◌++◌, find, take, Option, Some, None, Result, Ok, slice_get, refl, sym, ap, ◌∙◌}
 use Rattle.std.proofs.lemmas.List.{map-append}
 use Rattle.rs_cert_join.specs.Certs.{AreGiven, Gave, numbers_in}
 use Rattle.rs_feed.specs.declared.feed_row.FeedRow.{FeedRow}
 use Rattle.rs_feed_join.specs.declared.fault.JoinFault.{JoinFault}
 use Rattle.rs_feed_join.specs.declared.feed_pair.FeedPair.{FeedPair}
-use Rattle.rs_feed_join.specs.Answers.{MayBe, answer_by, asks_of_cuts, is_refused, next_answer}
+use Rattle.rs_feed_join.specs.Answers.{MayBe, answer_by, asks_of_cuts, is_refused}
 use Rattle.rs_feed_join.specs.Cuts.{cut}
-use Rattle.rs_feed_join.specs.Joins.{Continues, FeedJoinState, IsAfter, IsKept, pairs_drawn}
+use Rattle.rs_feed_join.specs.Joins.{Continues, FeedJoinState, pairs_drawn}
 use Rattle.rs_feed_join.specs.Pairs.{joined_pairs}
 use Rattle.rs_feed_join.specs.Sides.{AreTaken, FeedSide}
 use Rattle.rs_feed_join.proofs.RowFacts.{cut-whole}

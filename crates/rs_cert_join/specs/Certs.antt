@@ -1,10 +1,9 @@
 -- The certificate of what a join of two feeds gave.
-use Rattle.std.specs.Prelude.{ℕ, ◌≡◌, ◌<◌, ◌⊎◌, true, List, length, map, take, Option, Some, None, Ok}
+use Rattle.std.specs.Prelude.{ℕ, ◌≡◌, ◌<◌, ◌⊎◌, true, List, length, map, take, Option, Ok}
 use Rattle.rs_cert.specs.declared.cert.Cert.{Cert}
 use Rattle.rs_cert.specs.declared.cert.CertSide.{CertSide}
 use Rattle.rs_feed.specs.declared.feed_row.FeedRow.{FeedRow}
 use Rattle.rs_feed_join.specs.declared.feed_pair.FeedPair.{FeedPair}
-use Rattle.rs_feed_join.specs.declared.fault.JoinFault.{JoinFault}
 use Rattle.rs_feed_join.specs.Answers.{IsNext, MayBe}
 use Rattle.rs_feed_join.specs.Joins.{FeedJoinState, IsAfter, IsKept, pairs_drawn}
 use Rattle.rs_feed_join.specs.Sides.{FeedSide}

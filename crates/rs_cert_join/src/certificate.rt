@@ -34,8 +34,8 @@ fn side_of(alloc: Global, join: &FeedJoin, side: u8) -> Result<CertSide, Memory>
     let mut rows = Vec::new(alloc);
     for number in 0..join.drawn(side) {
         let (text, score) = join.row(side, number + 1);
-        let join = text.copy()?;
-        rows.push(FeedRow { join, score })?;
+        let text = text.copy()?;
+        rows.push(FeedRow { join: text, score })?;
     }
     Ok(CertSide {
         rows: List::of(rows),
