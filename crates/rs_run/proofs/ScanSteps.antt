@@ -1,5 +1,5 @@
 -- What the statements of a script did whose queries are answered by scans, from what their parts did.
-use Rattle.std.proofs.Common.{ℕ, ℤ, suc, ◌≡◌, ◌∙◌, List, [], ◌∷◌, Some, None, refl, sym, ap, subst, inl, inr}
+use Rattle.std.proofs.Common.{ℕ, ℤ, suc, ◌≡◌, ◌∙◌, List, Some, None, refl, sym, ap, subst, inl, inr}
 use Rattle.std.specs.Prelude.{IfOk, Option, Result, Ok, Err, option_map}
 use Rattle.rs_value.specs.Answer.{Gives}
 use Rattle.rs_lex.specs.declared.token.Span.{Span}

@@ -28,7 +28,7 @@ use Rattle.rs_run.specs.Faults.{run_faults}
 use Rattle.rs_run.specs.Parts.Read.{IsSource}
 use Rattle.rs_run.specs.Parts.Script.{IsRefused, IsScriptRead, ScriptRead}
 use Rattle.rs_run.specs.Plain.{HasStatements, HasTokens, ScriptRuns, TextRuns, as_it_is, read, runs, unlexed, unparsed, unread}
-use Rattle.rs_events.specs.Events.{Event, Fetch, Finds, finds_in}
+use Rattle.rs_events.specs.Events.{Event, Fetch, finds_in}
 use Rattle.rs_statement.specs.Steps.{Run, statement_faults}
 use Rattle.rs_events.specs.Run.{behind, fails, with_fault}
 use Rattle.rs_events.specs.Sequence.{RunOf, RunsOn, Step}

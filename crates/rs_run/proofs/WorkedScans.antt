@@ -1,8 +1,7 @@
 -- The definitions of the word `ta`, computed on examples.
-use Rattle.std.proofs.Common.{ℕ, ◌≡◌, List, [], ◌∷◌, Some, None, true, refl}
+use Rattle.std.proofs.Common.{ℕ, ◌≡◌, [], ◌∷◌, Some, None, true, refl}
 use Rattle.std.specs.Prelude.{codes, Err}
 use Rattle.std.specs.Fmt.{digits}
-use Rattle.rs_lex.specs.declared.token.Span.{Span}
 use Rattle.rs_rank.specs.declared.scored_row.ScoredRow.{ScoredRow}
 use Rattle.rs_syntax.specs.declared.name.Name.{Name}
 use Rattle.rs_syntax.specs.Syntax.{Close}
@@ -15,7 +14,7 @@ use Rattle.rs_run.specs.declared.fault.RunFault.TheVariants.{NotEligible}
 use Rattle.rs_run.specs.declared.fault.ScriptWord.TheVariants.{Ta}
 use Rattle.rs_run.specs.declared.status.Status.TheVariants as status
 use Rattle.rs_run.specs.Faults.{run_fault_line, status_of}
-use Rattle.rs_run.specs.Threshold.{DoesNext, access_line, counted_step, scan_asks}
+use Rattle.rs_run.specs.Threshold.{DoesNext, access_line, scan_asks}
 use Rattle.rs_run.specs.Words.{Threshold, form_of}
 
 -- the words `ta s`, and no more of them

@@ -1,7 +1,6 @@
 use Rattle.std.proofs.Common.{ℕ, ap, rules, sym}
 use Rattle.rs_value.proofs.ResultFacts.{given-err}
 use Rattle.rs_events.specs.Events.{finds_in}
-use Rattle.rs_events.proofs.LoopFacts.{some-run}
 use Rattle.rs_statement.specs.Session.{DoesInSession, StatementsRun, nothing}
 use Rattle.rs_statement.specs.Steps.{statement_faults}
 use Rattle.rs_statement.proofs.StatementFacts.{DoesInSession-finds}

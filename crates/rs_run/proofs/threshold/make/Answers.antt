@@ -1,6 +1,5 @@
 use Rattle.rs_value.proofs.ResultFacts.{given-err}
-use Rattle.std.proofs.Common.{sym, subst}
-use Rattle.std.specs.Prelude.{IfOk, Ok}
+use Rattle.std.specs.Prelude.{Ok}
 use Rattle.rs_syntax.specs.Syntax.{command_of}
 use Rattle.rs_catalog.specs.IndexesHold.{IndexesHold}
 use Rattle.rs_events.specs.Events.{finds_in}

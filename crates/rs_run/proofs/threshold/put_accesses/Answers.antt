@@ -1,6 +1,5 @@
-use Rattle.std.proofs.Common.{List, [], ◌∷◌, ◌∙◌, ap, sym, subst}
+use Rattle.std.proofs.Common.{[], ◌∷◌, ◌∙◌, ap, sym, subst}
 use Rattle.rs_value.proofs.ResultFacts.{given-err}
-use Rattle.rs_rank.specs.declared.scored_row.ScoredRow.{ScoredRow}
 use Rattle.rs_ta.specs.IndexLists.{index_lists_state}
 use Rattle.rs_ta.specs.Lists.{AreRanked}
 use Rattle.rs_events.specs.Run.{lines_run}

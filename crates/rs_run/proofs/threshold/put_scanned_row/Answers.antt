@@ -1,4 +1,4 @@
-use Rattle.std.proofs.Common.{ℕ, ◌≡◌, ◌∙◌, ◌-◌, ◌^◌, [], ◌∷◌, true, ap, subst, sym}
+use Rattle.std.proofs.Common.{◌≡◌, ◌∙◌, ◌-◌, ◌^◌, [], ◌∷◌, true, ap, subst, sym}
 use Rattle.rs_value.proofs.ResultFacts.{given-err}
 use Rattle.rs_lines.specs.Row.{line_of}
 use Rattle.rs_rank.specs.declared.ids.Ids.{Ids}

@@ -15,10 +15,7 @@ use Rattle.rs_ta.specs.Eligible.{block_input}
 use Rattle.rs_ta.specs.IndexLists.{IndexListsState, index_lists_state, new_index_lists}
 use Rattle.rs_ta.specs.Scans.{Scan, new_scan}
 use Rattle.rs_ta.proofs.EligibleFacts.{held-indexes}
-use Rattle.rs_events.specs.Run.{lines_run}
-use Rattle.rs_events.specs.Running.{Ran}
 use Rattle.rs_statement.specs.Lines.{rank_lines}
-use Rattle.rs_run.specs.Faults.{run_faults}
 use Rattle.rs_run.specs.Parts.Scanning.{IsScanning, IsUnasked, scan_input, scanned_rows}
 use Rattle.rs_run.specs.Threshold.{access_line, scan_asks, scan_lines}
 use Rattle.rs_run.proofs.ScanFacts.{lines-same}

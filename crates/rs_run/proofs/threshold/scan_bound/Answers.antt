@@ -1,4 +1,4 @@
-use Rattle.std.proofs.Common.{◌≡◌, ◌∙◌, List, ℕ, None, Some, refl, sym, ap, subst}
+use Rattle.std.proofs.Common.{◌≡◌, ◌∙◌, None, refl, sym, ap, subst}
 use Rattle.std.specs.Prelude.{Err, option_map}
 use Rattle.rs_value.proofs.ResultFacts.{given-err}
 use Rattle.rs_query.specs.declared.query.Query.{Query}
