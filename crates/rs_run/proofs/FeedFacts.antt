@@ -1,5 +1,5 @@
 -- The run of the word `feed`, with its faults told by the names of its files.
-use Rattle.std.proofs.Common.{ℕ, ◌≡◌, ◌∙◌, ◌⊎◌, ◌++◌, List, [], ◌∷◌, Option, Some, None, Result, Ok, Err, refl, sym, ap, subst, inl, inr}
+use Rattle.std.proofs.Common.{ℕ, ◌≡◌, ◌∙◌, ◌⊎◌, ◌++◌, List, [], ◌∷◌, Option, Some, None, Ok, Err, refl, sym, ap, subst, inl, inr}
 use Rattle.std.specs.Prelude.{option_map}
 use Rattle.rs_outside.specs.declared.files.FetchFault.TheVariants as fetch
 use Rattle.rs_expr.specs.Scoring.{Answering}
@@ -9,7 +9,7 @@ use Rattle.rs_events.specs.Events.{Event, Finds, Score, calls}
 use Rattle.rs_events.specs.HaltFaults.{Answers, IsFaultOf}
 use Rattle.rs_events.specs.Halts.{CallFailed, Ended, FetchFailed, Halt, HaltsAt, NoMemory, PutFailed}
 use Rattle.rs_events.specs.Run.{Run, with_fault}
-use Rattle.rs_events.specs.Running.{Ran, Runs}
+use Rattle.rs_events.specs.Running.{Runs}
 use Rattle.rs_events.proofs.RanFacts.{calls-append}
 use Rattle.rs_words.specs.declared.fault.WordFault.{WordFault}
 use Rattle.rs_words.specs.declared.fault.WordFault.TheVariants as word

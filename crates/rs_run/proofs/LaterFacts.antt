@@ -1,7 +1,6 @@
 -- A FETCH does the same over each catalogue that statements make of the one that its cursor is of.
-use Rattle.std.proofs.Common.{ℕ, ◌≡◌, ◌∙◌, ◌≤◌, List, [], ◌∷◌, length, length-append, append-nil, refl, sym, ap, subst, arith}
+use Rattle.std.proofs.Common.{ℕ, ◌≡◌, ◌∙◌, List, [], ◌∷◌, length-append, append-nil, refl, sym, ap, subst, arith}
 use Rattle.std.specs.Prelude.{Result, Ok, Err}
-use Rattle.std.specs.List.{AllByRecursion}
 use Rattle.rs_value.specs.Results.{◌>>=◌}
 use Rattle.rs_value.specs.declared.value.Value.{Value}
 use Rattle.rs_rank.specs.declared.answer.Answer.{Answer}
@@ -40,7 +39,7 @@ use Rattle.rs_statement.specs.Steps.{Step}
 use Rattle.rs_statement.specs.declared.evaluating.Evaluating.{Evaluating}
 use Rattle.rs_statement.specs.declared.evaluating.Evaluating.TheVariants.{Plainly, Planned}
 use Rattle.rs_statement.specs.declared.fault.Fault.{Fault}
-use Rattle.rs_statement.proofs.HeldSteps.{Ok-then, kept-step}
+use Rattle.rs_statement.proofs.HeldSteps.{kept-step}
 use Rattle.rs_statement.proofs.LargerRows.{IsCursorOf-plan, SameAsks-itself, alike-fetched}
 use Rattle.rs_statement.proofs.SameFetches.{AskTheSame}
 use Rattle.rs_run.specs.Later.{LeadsTo}

@@ -1,4 +1,3 @@
-use Rattle.std.proofs.Common.{sym}
 use Rattle.rs_events.specs.Events.{finds_in}
 use Rattle.rs_run.proofs.FeedFacts.{Runs-feed_err, Runs-feed_ok}
 use Rattle.rs_run.proofs.feed.feed.Goals as goal
