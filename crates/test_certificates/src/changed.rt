@@ -18,6 +18,7 @@ const FORM: usize = 6;
 const MOST_BYTES: usize = 1_000;
 
 /// How often each kind of answer came, and the sum of the records that were named.
+#[derive(Clone, Copy)]
 struct Counts {
     kinds: [u64; 7],
     places: u64,
