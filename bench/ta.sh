@@ -2,15 +2,15 @@
 # Measures threshold scans: how deep `ranksql ta` goes, how many accesses it makes, and how long a query takes, over tables of 1,000 to
 # 131,072 rows with 2 to 4 rank indexes, for 1 to 1,000 rows, with scores that have nothing to do with each other (apart) and with
 # scores that mostly agree (alike). In the same run `ranksql run` answers the same queries over the same indexes, and sqlite3 sorts the
-# sums. The time of a query is what 20 more of them add to a run, over 20, so the time to read the table and to make the indexes isn't
-# in it. Each runs five times, in turn, and the shortest time counts.
+# sums. The time of a query is what 400 more of them add to a run, over 400, and 40 with sqlite3, so the time to read the table and to
+# make the indexes isn't in it. Each runs five times, in turn, and the shortest time counts.
 # It draws docs/depth_by_rows.svg from the depths for ten rows, which stand in docs/depth_by_rows.tsv too.
 # The program is the one that ./ranksql builds, or the one that the variable RANKSQL names.
 # shellcheck source=bench/functions.sh
 . "$(dirname "$0")/functions.sh"
 
 RUNS=5
-MORE=20
+MORE=400
 
 needs python3 'it takes the times'
 find_program
@@ -88,11 +88,11 @@ def by_sqlite(queries, rows, kind, indexes, count):
                   ("SELECT n, %s FROM t ORDER BY %s DESC, n LIMIT %d;" % (total, total, count)) * queries])
 
 
-def of_a_query(call, *what):
+def of_a_query(call, count, *what):
     """The time of one query in microseconds."""
     few = min(call(1, *what)[0] for _ in range(runs))
-    many = min(call(1 + more, *what)[0] for _ in range(runs))
-    return max(0.1, (many - few) / more * 1e6)
+    many = min(call(1 + count, *what)[0] for _ in range(runs))
+    return max(0.1, (many - few) / count * 1e6)
 
 
 def accesses(*what):
@@ -113,11 +113,11 @@ print("best of %d runs; the time of one query in microseconds" % runs)
 for what in cases:
     rows, kind, indexes, count = what
     depth, ordered, random = accesses(*what)
-    own, plan = of_a_query(by_ta, *what), of_a_query(by_run, *what)
+    own, plan = of_a_query(by_ta, more, *what), of_a_query(by_run, more, *what)
     line = "%6d rows, %d indexes, LIMIT %4d, %s: depth %6d sorted %6d random %6d; ta %9.1f, %.2f an access; run %9.1f (ta takes %.3f of it)" % (
         rows, indexes, count, kind, depth, ordered, random, own, own / (ordered + random), plan, own / plan)
     if has_sqlite:
-        other = of_a_query(by_sqlite, *what)
+        other = of_a_query(by_sqlite, more // 10, *what)
         line += "; sqlite3 %9.1f (ta takes %.3f of it)" % (other, own / other)
     print(line, flush=True)
 lines = [("%d lists, %s" % (indexes, kind), [(rows, accesses(rows, kind, indexes, 10)[0]) for rows in ROWS])
