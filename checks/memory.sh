@@ -5,7 +5,7 @@
 # Before that it counts the allocations of runs over a table of 1,000 rows that print more or fewer rows, or call the scorer
 # more or less often: a printed row takes its values alone, and a call with numbers none. A row that a condition on texts is
 # tested on takes none either.
-# The word `feed` joins two feeds of five rows.
+# The word `feed` joins two feeds of five rows, and `ta` scans two indexes of four.
 # A join by a hash and a union are executed by the program cases_plans, whichever plan `run` would choose. That program
 # tells its input line by line, and names the line at which there is no memory, if it had begun with one.
 # A test of the program test_units_tests puts rows into a table, which has to stay as it was where one can't join. One of
@@ -120,6 +120,11 @@ cat base - >plan.sql <<'SQL'
 SELECT x, y FROM t ORDER BY p(x) + q(y) LIMIT 9;
 SQL
 printf '1,17,8,9\n2,13,10,3\n3,12,2,10\n4,6,5,1\n' >plan.wanted
+cat base - >scan.sql <<'SQL'
+CREATE RANK INDEX qy ON t (q(y));
+SELECT x, y FROM t ORDER BY p(x) + q(y) LIMIT 2; SELECT x, y FROM t WHERE x = 8 ORDER BY p(x) + q(y);
+SQL
+printf '1,17,8,9\n2,13,10,3\ndepth=3 sorted=6 random=4\n1,17,8,9\ndepth=4 sorted=8 random=4\n' >scan.wanted
 cat base - >first.sql <<'SQL'
 SELECT x, y FROM t ORDER BY p(x) + q(y) LIMIT 1; EXPLAIN ANALYZE SELECT x, y FROM t ORDER BY p(x) + q(y) LIMIT 1;
 SQL
@@ -257,6 +262,7 @@ run() {
     local words=("$program" plain "$1.sql") input=/dev/null
     case $1 in
         plan | first | tables | forms | nested | cursors | grows | rows | index | calls) words=("$program" run "$1.sql" 1) ;;
+        scan) words=("$program" ta scan.sql) ;;
         feed) words=("$program" feed fl.csv fr.csv 9) ;;
         hashed | united) words=("$cases") input=$1.sql ;;
         asked) words=("$ask" q scores /dev/null answers run asked.sql 1) ;;
@@ -442,7 +448,7 @@ compare calls '' 'level(rating)' 10 'level(rating) + recent(year)' 10
 compare_conditions tested_plainly plain
 compare_conditions tested_by_plans run 1
 
-names=(join union ready grown plan first tables forms nested cursors grows feed)
+names=(join union ready grown plan first tables forms nested cursors grows scan feed)
 if [ $# -gt 0 ]; then
     names=("$@")
 elif [ -x "$cases" ]; then
