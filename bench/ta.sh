@@ -3,24 +3,24 @@
 # 131,072 rows with 2 to 4 rank indexes, for 1 to 1,000 rows, with scores that have nothing to do with each other (apart) and with
 # scores that mostly agree (alike). In the same run `ranksql run` answers the same queries over the same indexes, and sqlite3 sorts the
 # sums. The time of a query is what 400 more of them add to a run, over 400, and 40 with sqlite3, so the time to read the table and to
-# make the indexes isn't in it. Each runs five times, in turn, and the shortest time counts.
+# make the indexes isn't in it. Times are those of the processor, so other work on the machine counts little. Each runs three times, and
+# the shortest time counts.
 # It draws docs/depth_by_rows.svg from the depths for ten rows, which stand in docs/depth_by_rows.tsv too.
 # The program is the one that ./ranksql builds, or the one that the variable RANKSQL names.
 # shellcheck source=bench/functions.sh
 . "$(dirname "$0")/functions.sh"
 
-RUNS=5
+RUNS=3
 MORE=400
 
 needs python3 'it takes the times'
 find_program
 
 python3 - "$program" "$work" "$RUNS" "$MORE" "$root" <<'PYTHON'
-import os
+import resource
 import shutil
 import subprocess
 import sys
-import time
 
 program, folder, runs, more, root = sys.argv[1], sys.argv[2], int(sys.argv[3]), int(sys.argv[4]), sys.argv[5]
 sys.dont_write_bytecode = True
@@ -64,10 +64,15 @@ def script(rows, kind, indexes, count, queries):
     return name
 
 
+def processor_time():
+    used = resource.getrusage(resource.RUSAGE_CHILDREN)
+    return used.ru_utime + used.ru_stime
+
+
 def timed(words):
-    start = time.perf_counter()
+    before = processor_time()
     ran = subprocess.run(words, stdout=subprocess.PIPE, stderr=subprocess.PIPE)
-    taken = time.perf_counter() - start
+    taken = processor_time() - before
     if ran.returncode != 0:
         sys.exit("bench: %s ended with %d: %s" % (" ".join(words), ran.returncode, ran.stderr.decode(errors="replace")))
     return taken, ran.stdout
