@@ -529,7 +529,11 @@ if [ -x "$counter" ]; then
     count 'the calls of the first film by a plan' 5534 run "$work/in/one.sql" 1
     # 83 calls make the indexes. 1,260 combinations satisfy the condition, and plainly each has three calls.
     count 'the calls of the evenings, plainly' 3863 plain examples/travel/evening.sql
-    count 'the calls of the evenings by a plan' 828 run examples/travel/evening.sql 1
+    count 'the calls of the evenings by a plan' 1092 run examples/travel/evening.sql 1
+    count 'the same with another seed' 828 run examples/travel/evening.sql 2
+    # 10,000 calls make the indexes, and the samples take 1,024. The plan before the index of the second predicate has 3,071, and that
+    # behind it 64.
+    count 'the calls of the films before and behind an index' 14159 run examples/films/tops.sql 1
     count 'the calls of the smallest generated input' 12 gen 0 1
 fi
 printf 'x,y\n10,10\n8,99\n' >far.csv
