@@ -151,8 +151,8 @@ cat >tables.wanted <<'LINES'
 HashRankJoin est=7 cost=47
   RankScan a a term 1 est=5 cost=10
   RankScan b b term 2 est=5 cost=10
-NestedRankJoin est=1 cost=12 asked=1 gave=1
-  RankScan a a term 1 est=3 cost=6 asked=2 gave=2 drawn=2
+NestedRankJoin est=1 cost=9 asked=1 gave=1
+  RankScan a a term 1 est=2 cost=4 asked=2 gave=2 drawn=2
   RankScan b b term 2 est=1 cost=2 asked=2 gave=2 drawn=2
 LINES
 # Every form of a statement, of a condition and of a formula.
