@@ -11,7 +11,7 @@ use std::alloc::Global;
 
 /// The line of words that are of no form. It grows with the words, so it stands above all that one word does.
 const USAGE: &str =
-    "usage: ranksql top FILE COLUMN MAX K, run SCRIPT SEED, plain SCRIPT, gen NUMBER ROWS, ta SCRIPT, feed LEFT RIGHT K\n";
+    "usage: ranksql top FILE COLUMN MAX K, run SCRIPT SEED, plain SCRIPT, gen NUMBER ROWS, ta SCRIPT, feed LEFT RIGHT K, cert LEFT RIGHT K, check FILE\n";
 
 /// A word of the command line whose scripts may have some statements alone.
 #[derive(Clone, Copy, Debug, PartialEq, Eq)]
@@ -45,6 +45,15 @@ pub enum RunFault {
         row: u32,
         before: u32,
         got: u32,
+    },
+    /// More rows of the feed of this name were drawn than a certificate takes.
+    CertTooLong {
+        name: Text,
+    },
+    /// The records of the file of this name are no certificate; this record, counted from 1, is the first that no certificate has there.
+    CertForm {
+        name: Text,
+        place: u32,
     },
     /// A fault of `top` or of a script.
     Statement(Fault),
@@ -93,6 +102,8 @@ impl RunFault {
             RunFault::Usage => Status::Usage,
             RunFault::NotEligible { .. } => Status::Script,
             RunFault::Order { .. } => Status::Table,
+            RunFault::CertTooLong { .. } => Status::Table,
+            RunFault::CertForm { .. } => Status::Table,
             RunFault::Statement(why) => statement_status(why),
         }
     }
@@ -113,6 +124,14 @@ impl RunFault {
                 before,
                 got,
             } => order_line(alloc, name, *row, *before, *got),
+            RunFault::CertTooLong { name } => {
+                let name = name.as_str();
+                Ok(format!(in alloc; "table: {name}: CertTooLong\n")?)
+            }
+            RunFault::CertForm { name, place } => {
+                let name = name.as_str();
+                Ok(format!(in alloc; "table: {name}: CertForm record {place}\n")?)
+            }
             RunFault::Statement(why) => why.line(alloc),
         }
     }
