@@ -1,11 +1,11 @@
-ghost use Rattle.std.specs.Prelude.{◌≡◌, ◌≤◌, IfOk, length};
-ghost use Rattle.rs_value.specs.Answer.{Gives};
+ghost use Rattle.std.specs.Prelude.{◌≡◌, ◌⊎◌, ◌≤◌, Ok, Err, MatchResult, length};
 ghost use Rattle.rs_events.specs.Environment.{Environment};
 ghost use Rattle.rs_events.specs.Events.{finds_in};
 ghost use Rattle.rs_events.specs.Running.{Ran, Runs};
-ghost use Rattle.rs_cert.specs.Records.{most_rows, most_wanted};
-ghost use Rattle.rs_feed_join.specs.Joins.{new_feed_join};
-ghost use Rattle.rs_words.specs.Certifying.{Certifies, IsCertRun, few_rows, joined_bytes, joined_cert_run};
+ghost use Rattle.rs_cert.specs.Records.{most_wanted};
+ghost use Rattle.rs_cert_join.specs.Certs.{cert_of};
+ghost use Rattle.rs_feed_join.specs.Joins.{new_feed_join, side_in};
+ghost use Rattle.rs_words.specs.Certifying.{IsCertRun, certified, few_rows, joined_bytes, joined_cert_run};
 ghost use Rattle.rs_words.specs.Faults.{feed_faults, put_faults};
 ghost use Rattle.rs_words.specs.Joining.{IsJoining};
 
@@ -66,7 +66,8 @@ fn cert_bytes(
 ) -> Result<Vec<u8>, WordFault>
     requires joining { IsJoining new_feed_join left.old right.old }
     requires wanted { count ≤ most_wanted }
-    ensures { Gives WordFault.Memory (joined_bytes left.old.rows right.old.rows count) (bytes_in result) }
+    ensures { MatchResult result (λ bytes. joined_bytes left.old.rows right.old.rows count ≡ Ok bytes.items)
+        (λ fault. (fault ≡ WordFault.Memory) ⊎ (joined_bytes left.old.rows right.old.rows count ≡ Err fault)) }
 {
     let mut join = FeedJoin::new(alloc);
     let pairs = first_pairs(alloc, &mut join, count, left, right)?;
@@ -85,7 +86,8 @@ fn first_pairs(
 ) -> Result<Vec<(u32, u32)>, WordFault>
     requires joining { IsJoining join.old left.old right.old }
     requires undrawn { join.old ≡ new_feed_join }
-    ensures { Certifies left.old.rows right.old.rows count join.new (items_in result) }
+    ensures { MatchResult result (λ pairs. certified left.old.rows right.old.rows count ≡ Ok (cert_of join.new count pairs.items))
+        (λ fault. (fault ≡ WordFault.Memory) ⊎ (certified left.old.rows right.old.rows count ≡ Err fault)) }
 {
     let mut pairs = Vec::new(alloc);
     for index in 0..count {

@@ -4,7 +4,7 @@ ghost use Rattle.rs_events.specs.Environment.{Environment};
 ghost use Rattle.rs_events.specs.Events.{finds_in};
 ghost use Rattle.rs_events.specs.Run.{lines_run};
 ghost use Rattle.rs_events.specs.Running.{Ran, Runs};
-ghost use Rattle.rs_words.specs.Checking.{IsCertIn, IsCheckRun, verdict_line};
+ghost use Rattle.rs_words.specs.Checking.{IsCertIn, IsCheckRun, IsCheckedRun, verdict_line};
 ghost use Rattle.rs_words.specs.Faults.{file_faults, put_faults};
 ghost use Rattle.rs_words.specs.FeedFiles.{file_limit};
 
