@@ -3,6 +3,7 @@ use Rattle.std.proofs.Common.{ℕ, zero, suc, ◌≡◌, ◌∙◌, ◌⊎◌, �
 use Rattle.std.proofs.lemmas.Bool.{true≢false}
 use Rattle.std.proofs.lemmas.Bool.Decides.{nat_tests}
 use Rattle.std.proofs.lemmas.List.{length-append, take-append-le, take-take, take_all}
+use Rattle.std.specs.Ordering.{flip_args, nat_cmp}
 use Rattle.rs_value.specs.Results.{◌>>=◌}
 use Rattle.rs_feed.specs.declared.feed_row.FeedRow.{FeedRow}
 use Rattle.rs_cert.specs.declared.cert.Cert.{Cert}
@@ -20,9 +21,9 @@ use Rattle.rs_cert.specs.Records.{AreRecordsOf, IsFirstStrange, IsForm, IsRead, 
 use Rattle.rs_cert.specs.Rows.{Falls, RisesFirstAt, rises}
 use Rattle.rs_cert.specs.Verdicts.{IsVerdict, RisesOn, on_left, on_right}
 use Rattle.rs_cert.proofs.CertFacts.{cert_of-read}
-use Rattle.rs_cert.proofs.RowFacts.{Falls-push, Falls-take, falls-next, score_before}
+use Rattle.rs_cert.proofs.RowFacts.{Falls-push, falls-next, score_before}
 use Rattle.rs_order.specs.Climbing.{IsNoLater}
-use Rattle.rs_order.specs.Last.{last_of}
+use Rattle.rs_order.proofs.EachFacts.{each-take}
 
 -- numbers of which neither is the lesser one
 same-number : (m n : ℕ) → (m < n → ⊥) → (n < m → ⊥) → m ≡ n
@@ -30,6 +31,13 @@ same-number zero zero f g = refl
 same-number zero (suc n) f g = absurd (f (omega arith))
 same-number (suc m) zero f g = absurd (g (omega arith))
 same-number (suc m) (suc n) f g = ap suc (same-number m n (λ h. f (omega (arith, h))) (λ h. g (omega (arith, h))))
+
+-- the first rows of some whose scores fall
+Falls-take : (n : ℕ) (rows : List FeedRow) → Falls rows → Falls (take n rows)
+Falls-take zero rows falls = tt
+Falls-take (suc n) [] falls = tt
+Falls-take (suc n) (row ∷ rows) falls =
+    (each-take (IsNoLater (flip_args nat_cmp) (λ (r : FeedRow). r.score) row) n rows falls.0, Falls-take n rows falls.1)
 
 -- the first row that rises, if one does
 take-front : (front rest : List FeedRow) → take (length front) (front ++ rest) ≡ front

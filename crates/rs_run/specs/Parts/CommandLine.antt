@@ -1,7 +1,7 @@
 -- What a command asks for, as its words say it.
 use Rattle.std.specs.Prelude.{◌≤◌}
 use Rattle.rs_cert.specs.Records.{most_wanted}
-use Rattle.rs_words.specs.Feeding.{FeedWords}
+use Rattle.rs_words.specs.TwoFeeds.{FeedWords}
 use Rattle.rs_run.specs.declared.words.FeedCommand.{FeedCommand}
 use Rattle.rs_run.specs.declared.words.TopCommand.{TopCommand}
 use Rattle.rs_run.specs.declared.words.CommandLine.{CommandLine}
