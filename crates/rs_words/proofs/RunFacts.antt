@@ -158,8 +158,8 @@ module _ (joined : JoinRun) (words : FeedWords) (environment : Environment) (lef
 
 -- the word has a run, and one alone where a name has one file
 module _ (joined : JoinRun) (finds : Finds) where
-  pub some-run : ((name : List ℕ) → (there : Option (List ℕ)) × finds name there) → (words : FeedWords) → (run : Run WordFault) × IsTwoFeedsRun joined finds words run
-  some-run has words =
+  pub some-words_run : ((name : List ℕ) → (there : Option (List ℕ)) × finds name there) → (words : FeedWords) → (run : Run WordFault) × IsTwoFeedsRun joined finds words run
+  some-words_run has words =
       let left = has words.left in
       let more = left-run joined finds words (feed_file 1 left.0) (has words.right) in
       (behind (Fetch words.left ∷ []) more.0, (left.0, left.1, more.0, more.1, refl))
