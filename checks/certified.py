@@ -51,9 +51,14 @@ def change(draw, text):
     records = text.decode().splitlines()
     place = draw.randrange(len(records))
     name, one, other = records[place].split(",", 2)
-    kind = draw.randrange(7)
+    kind = draw.randrange(9)
     if kind == 0:
         del records[place]
+    elif kind > 6:
+        # The last row of a side, or its end.
+        side = [at for at, record in enumerate(records) if record.startswith(("left,", "right,")[kind - 7])]
+        if side:
+            del records[side[-1]]
     elif kind == 1:
         records.insert(place, records[place])
     elif kind == 2 and one.isdigit():
