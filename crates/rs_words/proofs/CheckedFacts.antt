@@ -77,7 +77,7 @@ numbered-records bytes within = omega (arith, few-records bytes)
 
 -- some run behind the fetch
 some-checked : (bytes : List ℕ) → (run : Run WordFault) × IsCheckedRun bytes run
-some-checked bytes = elim some-read (records_of bytes) [
+some-checked bytes = elim (some-read (records_of bytes)) [
   | inl are ↦ let verdict = some-verdict are.0 in (lines_run (verdict_line verdict.0 ∷ []), judged are.0 verdict.0 are.1 verdict.1)
   | inr form ↦ (fails (CertForm form.0), strange form.0 form.1)
 ]
@@ -149,7 +149,7 @@ some-check_run finds has file =
 
 -- and one alone
 both : (bytes : List ℕ) (cert : Cert) (place : ℕ) → AreRecordsOf cert (records_of bytes) → IsForm (records_of bytes) place → ⊥
-both bytes cert place are form = elim reads-it cert (records_of bytes) (Err (Form place)) are form [ inl e ↦ cc | inr e ↦ cc ]
+both bytes cert place are form = elim (reads-it cert (records_of bytes) (Err (Form place)) are form) [ inl e ↦ cc | inr e ↦ cc ]
 
 IsCheckedRun-one : (bytes : List ℕ) (a b : Run WordFault) → IsCheckedRun bytes a → IsCheckedRun bytes b → a ≡ b
 IsCheckedRun-one bytes _ _ (strange place form) (strange other also) = ap (λ n. fails (CertForm n)) (one-form (records_of bytes) place other form also)

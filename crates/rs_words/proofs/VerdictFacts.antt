@@ -89,37 +89,37 @@ rises-one cert _ _ _ _ (on_right row left rise) (on_right number also_left also)
 
 -- a certificate has one verdict at most
 pub one-verdict : (cert : Cert) (a b : Verdict) → IsVerdict cert a → IsVerdict cert b → a ≡ b
-one-verdict cert (Order as ar) (Order bs br) g h = rises-one cert as ar bs br g h
-one-verdict cert (Order as ar) Pairs g h = absurd (unrisen cert as ar h.0 g)
-one-verdict cert (Order as ar) Short g h = absurd (unrisen cert as ar h.0 g)
-one-verdict cert (Order as ar) Left g h = absurd (unrisen cert as ar h.0 g)
-one-verdict cert (Order as ar) Right g h = absurd (unrisen cert as ar h.0 g)
-one-verdict cert (Order as ar) Yes g h = absurd (unrisen cert as ar h.falls g)
-one-verdict cert Pairs (Order bs br) g h = absurd (unrisen cert bs br g.0 h)
+one-verdict cert (Order a_side a_row) (Order b_side b_row) g h = rises-one cert a_side a_row b_side b_row g h
+one-verdict cert (Order a_side a_row) Pairs g h = absurd (unrisen cert a_side a_row h.0 g)
+one-verdict cert (Order a_side a_row) Short g h = absurd (unrisen cert a_side a_row h.0 g)
+one-verdict cert (Order a_side a_row) Left g h = absurd (unrisen cert a_side a_row h.0 g)
+one-verdict cert (Order a_side a_row) Right g h = absurd (unrisen cert a_side a_row h.0 g)
+one-verdict cert (Order a_side a_row) Yes g h = absurd (unrisen cert a_side a_row h.falls g)
+one-verdict cert Pairs (Order b_side b_row) g h = absurd (unrisen cert b_side b_row g.0 h)
 one-verdict cert Pairs Pairs g h = refl
 one-verdict cert Pairs Short g h = absurd (g.1 h.1)
 one-verdict cert Pairs Left g h = absurd (g.1 h.1)
 one-verdict cert Pairs Right g h = absurd (g.1 h.1)
 one-verdict cert Pairs Yes g h = absurd (g.1 h.pairs)
-one-verdict cert Short (Order bs br) g h = absurd (unrisen cert bs br g.0 h)
+one-verdict cert Short (Order b_side b_row) g h = absurd (unrisen cert b_side b_row g.0 h)
 one-verdict cert Short Pairs g h = absurd (h.1 g.1)
 one-verdict cert Short Short g h = refl
 one-verdict cert Short Left g h = absurd (g.2 h.2)
 one-verdict cert Short Right g h = absurd (g.2 h.2)
 one-verdict cert Short Yes g h = absurd (g.2 h.enough)
-one-verdict cert Left (Order bs br) g h = absurd (unrisen cert bs br g.0 h)
+one-verdict cert Left (Order b_side b_row) g h = absurd (unrisen cert b_side b_row g.0 h)
 one-verdict cert Left Pairs g h = absurd (h.1 g.1)
 one-verdict cert Left Short g h = absurd (h.2 g.2)
 one-verdict cert Left Left g h = refl
 one-verdict cert Left Right g h = absurd (g.3 h.3)
 one-verdict cert Left Yes g h = absurd (g.3 h.left)
-one-verdict cert Right (Order bs br) g h = absurd (unrisen cert bs br g.0 h)
+one-verdict cert Right (Order b_side b_row) g h = absurd (unrisen cert b_side b_row g.0 h)
 one-verdict cert Right Pairs g h = absurd (h.1 g.1)
 one-verdict cert Right Short g h = absurd (h.2 g.2)
 one-verdict cert Right Left g h = absurd (h.3 g.3)
 one-verdict cert Right Right g h = refl
 one-verdict cert Right Yes g h = absurd (g.4 h.right)
-one-verdict cert Yes (Order bs br) g h = absurd (unrisen cert bs br g.falls h)
+one-verdict cert Yes (Order b_side b_row) g h = absurd (unrisen cert b_side b_row g.falls h)
 one-verdict cert Yes Pairs g h = absurd (h.1 g.pairs)
 one-verdict cert Yes Short g h = absurd (h.2 g.enough)
 one-verdict cert Yes Left g h = absurd (h.3 g.left)
@@ -140,12 +140,12 @@ decided-nat : (m n : ℕ) → Decided (m ≡ n)
 decided-nat zero zero = inl refl
 decided-nat zero (suc n) = inr (λ e. absurd (omega (arith, e)))
 decided-nat (suc m) zero = inr (λ e. absurd (omega (arith, e)))
-decided-nat (suc m) (suc n) = elim decided-nat m n [ inl e ↦ inl (ap suc e) | inr no ↦ inr (λ e. no (let same : m ≡ n = omega (arith, e) in same)) ]
+decided-nat (suc m) (suc n) = elim (decided-nat m n) [ inl e ↦ inl (ap suc e) | inr no ↦ inr (λ e. no (let same : m ≡ n = omega (arith, e) in same)) ]
 
 decided-most : (m n : ℕ) → (m ≤ n) ⊎ (n < m)
 decided-most zero n = inl (omega arith)
 decided-most (suc m) zero = inr (omega arith)
-decided-most (suc m) (suc n) = elim decided-most m n [ inl e ↦ inl (omega (arith, e)) | inr e ↦ inr (omega (arith, e)) ]
+decided-most (suc m) (suc n) = elim (decided-most m n) [ inl e ↦ inl (omega (arith, e)) | inr e ↦ inr (omega (arith, e)) ]
 
 decided-pairs : (xs ys : List (ℕ × ℕ)) → Decided (xs ≡ ys)
 decided-pairs [] [] = inl refl
@@ -215,14 +215,15 @@ formed place (Some said) e = cc
 
 all-formed : (records : List Fields) (place : ℕ) (cert : Cert) → with_records place cert records ≡ Err Memory → ⊥
 all-formed [] place cert e = cc
-all-formed (fields ∷ rest) place cert e = of (entry_of fields) e where
-  next : (o : Option Cert) → (or_form place o >>= (λ more. with_records (place + 1) more rest)) ≡ Err Memory → ⊥
-  next None e = cc
-  next (Some more) e = all-formed rest (place + 1) more e
+all-formed (fields ∷ rest) place cert e = of (λ more. all-formed rest (place + 1) more) (entry_of fields) e where
+  next : ((more : Cert) → with_records (place + 1) more rest ≡ Err Memory → ⊥) → (o : Option Cert) → (or_form place o >>= (λ more. with_records (place + 1) more rest)) ≡ Err Memory → ⊥
+  next again None e = cc
+  next again (Some more) e = again more e
 
-  of : (o : Option Entry) → ((or_form place o >>= (λ entry. or_form place (next_cert cert entry))) >>= (λ more. with_records (place + 1) more rest)) ≡ Err Memory → ⊥
-  of None e = cc
-  of (Some entry) e = next (next_cert cert entry) e
+  of : ((more : Cert) → with_records (place + 1) more rest ≡ Err Memory → ⊥) → (o : Option Entry)
+      → ((or_form place o >>= (λ entry. or_form place (next_cert cert entry))) >>= (λ more. with_records (place + 1) more rest)) ≡ Err Memory → ⊥
+  of again None e = cc
+  of again (Some entry) e = next again (next_cert cert entry) e
 
 cert-formed : (records : List Fields) → cert_of records ≡ Err Memory → ⊥
 cert-formed [] e = cc
