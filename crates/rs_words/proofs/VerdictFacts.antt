@@ -53,14 +53,17 @@ rise-behind front (row ∷ rest) falls = go (rises (score_before front) row.scor
       → (Falls (front ++ row ∷ []) → Falls ((front ++ row ∷ []) ++ rest) ⊎ ((n : ℕ) × RisesFirstAt ((front ++ row ∷ []) ++ rest) n))
       → Falls (front ++ row ∷ rest) ⊎ ((n : ℕ) × RisesFirstAt (front ++ row ∷ rest) n)
   go false e further = subst (λ rows. Falls rows ⊎ ((n : ℕ) × RisesFirstAt rows n)) whole (further (Falls-push front row falls e))
-  go true e further = inr (length (front ++ row ∷ []), record {
-    before =
-        let number : length (front ++ row ∷ []) - 1 ≡ length front = let size = length-append front (row ∷ []) in omega (arith, size) in
-        subst Falls (sym (ap (λ n. take n (front ++ row ∷ rest)) number ∙ take-front front (row ∷ rest))) falls;
-    there = λ more.
-        let next : Falls (front ++ row ∷ []) = subst Falls (ap (take (length (front ++ row ∷ []))) (sym whole) ∙ take-front (front ++ row ∷ []) rest) more in
-        true≢false (sym e ∙ falls-next front row next);
-  })
+  go true e further = inr (
+    length (front ++ row ∷ []),
+    record {
+      before =
+          let number : length (front ++ row ∷ []) - 1 ≡ length front = let size = length-append front (row ∷ []) in omega (arith, size) in
+          subst Falls (sym (ap (λ n. take n (front ++ row ∷ rest)) number ∙ take-front front (row ∷ rest))) falls;
+      there = λ more.
+          let next : Falls (front ++ row ∷ []) = subst Falls (ap (take (length (front ++ row ∷ []))) (sym whole) ∙ take-front (front ++ row ∷ []) rest) more in
+          true≢false (sym e ∙ falls-next front row next);
+    },
+  )
 
 some-rise : (rows : List FeedRow) → Falls rows ⊎ ((n : ℕ) × RisesFirstAt rows n)
 some-rise rows = rise-behind [] rows tt
