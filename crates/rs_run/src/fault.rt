@@ -124,14 +124,8 @@ impl RunFault {
                 before,
                 got,
             } => order_line(alloc, name, *row, *before, *got),
-            RunFault::CertTooLong { name } => {
-                let name = name.as_str();
-                Ok(format!(in alloc; "table: {name}: CertTooLong\n")?)
-            }
-            RunFault::CertForm { name, place } => {
-                let name = name.as_str();
-                Ok(format!(in alloc; "table: {name}: CertForm record {place}\n")?)
-            }
+            RunFault::CertTooLong { name } => too_long_line(alloc, name),
+            RunFault::CertForm { name, place } => form_line(alloc, name, *place),
             RunFault::Statement(why) => why.line(alloc),
         }
     }
@@ -143,6 +137,22 @@ fn order_line(alloc: Global, name: &Text, row: u32, before: u32, got: u32) -> Re
 {
     let name = name.as_str();
     Ok(format!(in alloc; "table: {name}: OutOfOrder row {row} before {before} got {got}\n")?)
+}
+
+/// The line of a feed of which too many rows were drawn for a certificate.
+fn too_long_line(alloc: Global, name: &Text) -> Result<String, Memory>
+    ensures { IfOk result (λ line. string_bytes line ≡ run_fault_line (RunFault.CertTooLong name.now)) }
+{
+    let name = name.as_str();
+    Ok(format!(in alloc; "table: {name}: CertTooLong\n")?)
+}
+
+/// The line of a file that is no certificate.
+fn form_line(alloc: Global, name: &Text, place: u32) -> Result<String, Memory>
+    ensures { IfOk result (λ line. string_bytes line ≡ run_fault_line (RunFault.CertForm name.now place)) }
+{
+    let name = name.as_str();
+    Ok(format!(in alloc; "table: {name}: CertForm record {place}\n")?)
 }
 
 /// The status of a run that ends with this fault of `top` or of a script.
