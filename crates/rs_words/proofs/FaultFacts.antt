@@ -131,7 +131,7 @@ of-behind lefts rights count n (suc more) =
 
 of-few : (side rows : ℕ) → GivesNoPut (few_rows side rows)
 of-few side rows = go (nat_lt most_rows rows) where
-  go : (many : Bool) → GivesNoPut (cond many (Err (CertTooLong side)) (Ok tt))
+  go : (many : Bool) → GivesNoPut {A = Unit {0}} (cond many (Err (CertTooLong side)) (Ok tt))
   go true = tt
   go false = tt
 

@@ -121,7 +121,7 @@ module _ (joined : JoinRun) (words : FeedWords) (environment : Environment) (lef
           f.there,
           f.is_told,
           behind (Fetch words.right ∷ []) (right_run joined left.rows words.count (feed_file 2 there)),
-          subst (λ rows. LeftRun (finds_in environment.files.told) words rows (behind (Fetch words.right ∷ []) (right_run joined left.rows words.count (feed_file 2 there)))) (sym (bound-ok (feed_file 1 f.there) left read.given))
+          subst (λ rows. LeftRun joined (finds_in environment.files.told) words rows (behind (Fetch words.right ∷ []) (right_run joined left.rows words.count (feed_file 2 there)))) (sym (bound-ok (feed_file 1 f.there) left read.given))
               (there, finds-after environment.files.told lefts.told (words.left ∷ []) read.has.all.fetched words.right there found, refl),
           refl,
         )

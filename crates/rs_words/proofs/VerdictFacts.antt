@@ -7,7 +7,6 @@ use Rattle.std.specs.Ordering.{flip_args, nat_cmp}
 use Rattle.rs_value.specs.Results.{◌>>=◌}
 use Rattle.rs_feed.specs.declared.feed_row.FeedRow.{FeedRow}
 use Rattle.rs_cert.specs.declared.cert.Cert.{Cert}
-use Rattle.rs_cert.specs.declared.entry.Entry.{Entry}
 use Rattle.rs_cert.specs.declared.fault.CertFault.{CertFault}
 use Rattle.rs_cert.specs.declared.fault.CertFault.TheVariants.{Form, Memory}
 use Rattle.rs_cert.specs.declared.pair.Pair.{Pair}
@@ -218,15 +217,15 @@ formed place (Some said) e = cc
 
 all-formed : (records : List Fields) (place : ℕ) (cert : Cert) → with_records place cert records ≡ Err Memory → ⊥
 all-formed [] place cert e = cc
-all-formed (fields ∷ rest) place cert e = of (λ more. all-formed rest (place + 1) more) (entry_of fields) e where
+all-formed (fields ∷ rest) place cert e = of (λ more. all-formed rest (place + 1) more) (next_cert cert) (entry_of fields) e where
   next : ((more : Cert) → with_records (place + 1) more rest ≡ Err Memory → ⊥) → (o : Option Cert) → (or_form place o >>= (λ more. with_records (place + 1) more rest)) ≡ Err Memory → ⊥
   next again None e = cc
   next again (Some more) e = again more e
 
-  of : ((more : Cert) → with_records (place + 1) more rest ≡ Err Memory → ⊥) → (o : Option Entry)
-      → ((or_form place o >>= (λ entry. or_form place (next_cert cert entry))) >>= (λ more. with_records (place + 1) more rest)) ≡ Err Memory → ⊥
-  of again None e = cc
-  of again (Some entry) e = next again (next_cert cert entry) e
+  of : {E : Type 0} → ((more : Cert) → with_records (place + 1) more rest ≡ Err Memory → ⊥) → (after : E → Option Cert) → (o : Option E)
+      → ((or_form place o >>= (λ entry. or_form place (after entry))) >>= (λ more. with_records (place + 1) more rest)) ≡ Err Memory → ⊥
+  of again after None e = cc
+  of again after (Some entry) e = next again (after entry) e
 
 cert-formed : (records : List Fields) → cert_of records ≡ Err Memory → ⊥
 cert-formed [] e = cc

@@ -1,5 +1,6 @@
 use Rattle.std.proofs.Common.{◌∙◌, Ok, length, sym, ap, inr}
 use Rattle.rs_value.proofs.ResultFacts.{given-err}
+use Rattle.rs_cert.specs.Written.{written}
 use Rattle.rs_cert_join.specs.Certs.{cert_of}
 use Rattle.rs_words.proofs.CertifyFacts.{bytes-both, bytes-left, bytes-right, bytes-unjoined, few-rows}
 use Rattle.rs_words.proofs.certifying.cert_bytes.Goals as goal
@@ -33,4 +34,5 @@ pub returns : goal.returns
 returns c =
     bytes-both c.args.left.now.rows c.args.right.now.rows c.args.count (cert_of c.first_pairs.new.join c.args.count c.in_ok-pairs.pairs.items) c.in_ok-pairs.ensures
     c.in_ok-require_few.ensures c.in_ok-require_few-2.ensures
+    ∙ ap (λ pairs. Ok (written (cert_of c.first_pairs.new.join c.args.count pairs))) (sym c.deref.ensures.value)
     ∙ ap Ok (sym c.in_ok-write.ensures.bytes)

@@ -20,27 +20,27 @@ loop-index-init c = record {
   drawn = record { left_draws = ap (λ (join : FeedJoinState). join.left.draws) c.requires.undrawn; right_draws = ap (λ (join : FeedJoinState). join.right.draws) c.requires.undrawn };
   left_counted = subst (λ (join : FeedJoinState). IsCounted join.left) (sym c.requires.undrawn) refl;
   right_counted = subst (λ (join : FeedJoinState). IsCounted join.right) (sym c.requires.undrawn) refl;
-  pairs = c.new.ensures.items;
+  pairs = c.new-pairs.new.ensures.items;
   so_far = certified-first c.args.left.now.rows c.args.right.now.rows c.args.count;
 }
 
-pub returns-in_err-next_pair : goal.returns-in_err-next_pair
-returns-in_err-next_pair c =
+pub returns-in_err-pair : goal.returns-in_err-pair
+returns-in_err-pair c =
     let lefts = c.args.left.now.rows in
     let rights = c.args.right.now.rows in
     let inv = c.loop-index.invariant in
-    let fault = c.in_err-next_pair.field-0.0 in
+    let fault = c.in_err-pair.field-0.0 in
     rw (given-err c.from_residual.result fault c.from_residual.ensures)
     (certified-fault lefts rights c.args.count c.loop-index.index inv.so_far c.loop-index-test.true fault
     (at-place (λ l r n. (fault ≡ Memory) ⊎ (fault_of (next_answer l r n) ≡ Some fault)) lefts rights c.loop-index.left.rows c.loop-index.right.rows c.loop-index.join.given c.loop-index.index
-    inv.left_rows inv.right_rows inv.given c.in_err-next_pair.ensures.fault))
+    inv.left_rows inv.right_rows inv.given c.in_err-pair.ensures.fault))
 
 pub returns-in-None : goal.returns-in-None
 returns-in-None c =
     let lefts = c.args.left.now.rows in
     let rights = c.args.right.now.rows in
     let inv = c.loop-index.invariant in
-    let ensures = c.in_ok-next_pair.ensures in
+    let ensures = c.in_ok-pair.ensures in
     certified-end lefts rights c.args.count c.loop-index.index inv.so_far c.loop-index-test.true
     (at-place (λ l r n. next_answer l r n ≡ Ok None) lefts rights c.loop-index.left.rows c.loop-index.right.rows c.loop-index.join.given c.loop-index.index
     inv.left_rows inv.right_rows inv.given (ensures.pair ∙ ap Ok c.in-None.is))
@@ -54,7 +54,7 @@ loop-index-preserved c =
     let lefts = c.args.left.now.rows in
     let rights = c.args.right.now.rows in
     let inv = c.loop-index.invariant in
-    let ensures = c.in_ok-next_pair.ensures in
+    let ensures = c.in_ok-pair.ensures in
     let next : suc c.loop-index.index ≡ c.loop-index.index + 1 = omega arith in
     let answer = at-place (λ l r n. next_answer l r n ≡ Ok (Some c.in-Some.pair)) lefts rights c.loop-index.left.rows c.loop-index.right.rows c.loop-index.join.given c.loop-index.index
     inv.left_rows inv.right_rows inv.given (ensures.pair ∙ ap Ok c.in-Some.is) in record {
