@@ -98,17 +98,15 @@ module _ (file : List ℕ) (environment : Environment) (files : Outside FilesTol
   -- the file was not read
   pub Ran-unread : (fault : WordFault) → FetchesFile {A = Vec ℕ Global} Memory (λ why. why ≡ Read 1 fetch.Failed) file (Err fault) IsBytesOf environment.files files
       → Runs (file_faults file) (IsCheckRun (finds_in environment.files.told) file) (Err fault) environment (record environment { files = files })
+  unfolding fetches-loosely
   Ran-unread fault f =
       let more = some-read_run (or_read 1 (fetched_bytes file_limit f.there)) in record {
         run = behind (Fetch file ∷ []) more.0;
         is = (f.there, f.is_told, more.0, more.1, refl);
         ran = Ran-unfetched environment files file fault IsBytesOf (behind (Fetch file ∷ []) more.0) more.0.events
-            (told f) refl
+            (fetches-loosely {A = Vec ℕ Global} file (Err fault) IsBytesOf environment.files files (λ why is. (refl, is)) f) refl
             (λ given. ap (behind (Fetch file ∷ [])) (read-err (or_read 1 (fetched_bytes file_limit f.there)) more.0 fault more.1 given));
-      } where
-        told : FetchesFile {A = Vec ℕ Global} Memory (λ why. why ≡ Read 1 fetch.Failed) file (Err fault) IsBytesOf environment.files files
-            → FetchesFile {A = Vec ℕ Global} Memory ((file_faults file).IsFailedFetch file) file (Err fault) IsBytesOf environment.files files
-        told f = fetches-loosely {A = Vec ℕ Global} file (Err fault) IsBytesOf environment.files files (λ why is. (refl, is)) f
+      }
 
   -- it was read
   pub Ran-checked : (bytes : Vec ℕ Global) (result : Result (Unit {0}) WordFault) (new : Environment) → FetchesFile {A = Vec ℕ Global} Memory (λ why. why ≡ Read 1 fetch.Failed) file (Ok bytes) IsBytesOf environment.files files

@@ -9,13 +9,12 @@ use Rattle.rs_feed.specs.declared.feed_row.FeedRow.{FeedRow}
 use Rattle.rs_cert.specs.declared.cert.Cert.{Cert}
 use Rattle.rs_cert.specs.declared.fault.CertFault.{CertFault}
 use Rattle.rs_cert.specs.declared.fault.CertFault.TheVariants.{Form, Memory}
-use Rattle.rs_cert.specs.declared.pair.Pair.{Pair}
 use Rattle.rs_cert.specs.declared.verdict.Verdict.{Verdict}
 use Rattle.rs_cert.specs.declared.verdict.Verdict.TheVariants.{Yes, Order, Pairs, Short, Left, Right}
 use Rattle.rs_cert.specs.Csv.{Fields}
-use Rattle.rs_cert.specs.Good.{FallsOnBothSides, HasEnough, HasFirstPairs, IsAtOrBefore, IsWhole, LeftIsReached, RightIsReached, answers_of, first_answers, merged, no_pair_can_come}
+use Rattle.rs_cert.specs.Good.{FallsOnBothSides, HasEnough, HasFirstPairs, IsAtOrBefore, IsWhole, LeftIsReached, RightIsReached, answers_of, first_answers, no_pair_can_come}
 use Rattle.rs_cert.specs.Growing.{cert_of, new_cert, next_cert, or_form, with_records}
-use Rattle.rs_cert.specs.Pairs.{numbers_of, pair_cmp}
+use Rattle.rs_cert.specs.Pairs.{Answer, numbers_of}
 use Rattle.rs_cert.specs.Records.{AreRecordsOf, IsFirstStrange, IsForm, IsRead, entry_of, wanted_of}
 use Rattle.rs_cert.specs.Rows.{Falls, RisesFirstAt, rises}
 use Rattle.rs_cert.specs.Verdicts.{IsVerdict, RisesOn, on_left, on_right}
@@ -142,7 +141,7 @@ decided-nat : (m n : ℕ) → Decided (m ≡ n)
 decided-nat zero zero = inl refl
 decided-nat zero (suc n) = inr (λ e. absurd (omega (arith, e)))
 decided-nat (suc m) zero = inr (λ e. absurd (omega (arith, e)))
-decided-nat (suc m) (suc n) = elim (decided-nat m n) [ inl e ↦ inl (ap suc e) | inr no ↦ inr (λ e. no (let same : m ≡ n = omega (arith, e) in same)) ]
+decided-nat (suc m) (suc n) = elim (decided-nat m n) [ inl e ↦ inl (ap suc e) | inr never ↦ inr (λ e. never (let same : m ≡ n = omega (arith, e) in same)) ]
 
 decided-most : (m n : ℕ) → (m ≤ n) ⊎ (n < m)
 decided-most zero n = inl (omega arith)
@@ -162,15 +161,15 @@ decided-pairs (x ∷ xs) (y ∷ ys) = go (decided-nat x.0 y.0) (decided-nat x.1 
 
   go : Decided (x.0 ≡ y.0) → Decided (x.1 ≡ y.1) → Decided (xs ≡ ys) → Decided (x ∷ xs ≡ y ∷ ys)
   go (inl e) (inl f) (inl g) = inl (ap (λ n. (n, x.1) ∷ xs) e ∙ ap (λ n. (y.0, n) ∷ xs) f ∙ ap (λ list. y ∷ list) g)
-  go (inr no) f g = inr (λ e. no (ap (λ (p : ℕ × ℕ). p.0) (first e)))
-  go (inl e) (inr no) g = inr (λ e. no (ap (λ (p : ℕ × ℕ). p.1) (first e)))
-  go (inl e) (inl f) (inr no) = inr (λ e. no (rest e))
+  go (inr never) f g = inr (λ e. never (ap (λ (p : ℕ × ℕ). p.0) (first e)))
+  go (inl e) (inr never) g = inr (λ e. never (ap (λ (p : ℕ × ℕ). p.1) (first e)))
+  go (inl e) (inl f) (inr never) = inr (λ e. never (rest e))
 
 decided-first : (cert : Cert) → Decided (HasFirstPairs cert)
 decided-first cert = go (decided-pairs cert.pairs (numbers_of (first_answers cert))) (decided-most (length cert.pairs) cert.k) where
   go : Decided (cert.pairs ≡ numbers_of (first_answers cert)) → (length cert.pairs ≤ cert.k) ⊎ (cert.k < length cert.pairs) → Decided (HasFirstPairs cert)
   go (inl first) (inl most) = inl (record { first = first; most = most })
-  go (inr no) most = inr (λ has. no has.first)
+  go (inr never) most = inr (λ has. never has.first)
   go (inl first) (inr many) = inr (λ has. absurd (omega (arith, many, has.most)))
 
 decided-enough : (cert : Cert) → Decided (HasEnough cert)
@@ -178,10 +177,10 @@ decided-enough cert = go (decided-most cert.k (length cert.pairs)) (decided-nat 
   go : (cert.k ≤ length cert.pairs) ⊎ (length cert.pairs < cert.k) → Decided (length (answers_of cert) ≡ length cert.pairs) → Decided (no_pair_can_come cert ≡ true) → Decided (HasEnough cert)
   go (inl enough) all ended = inl (λ fewer. absurd (omega (arith, enough, fewer)))
   go (inr fewer) (inl all) (inl ended) = inl (λ _. record { all = all; ended = ended })
-  go (inr fewer) (inr no) ended = inr (λ has. no (has fewer).all)
-  go (inr fewer) (inl all) (inr no) = inr (λ has. no (has fewer).ended)
+  go (inr fewer) (inr never) ended = inr (λ has. never (has fewer).all)
+  go (inr fewer) (inl all) (inr never) = inr (λ has. never (has fewer).ended)
 
-decided-at : (pair : Option Pair) (i : ℕ) (left : Option FeedRow) (j : ℕ) (right : Option FeedRow) → Decided (IsAtOrBefore pair i left j right)
+decided-at : (pair : Option Answer) (i : ℕ) (left : Option FeedRow) (j : ℕ) (right : Option FeedRow) → Decided (IsAtOrBefore pair i left j right)
 decided-at None i left j right = inl tt
 decided-at (Some pair) i None j right = inl tt
 decided-at (Some pair) i (Some left) j None = inl tt
@@ -190,19 +189,19 @@ decided-at (Some pair) i (Some left) j (Some right) = decided-bool _ false
 decided-where : (ended : Bool) {P : Type 0} → Decided P → Decided (ended ≡ false → P)
 decided-where true decided = inl (λ e. absurd cc)
 decided-where false (inl p) = inl (λ _. p)
-decided-where false (inr no) = inr (λ has. no (has refl))
+decided-where false (inr never) = inr (λ has. never (has refl))
 
 -- so it has one
 pub some-verdict : (cert : Cert) → (verdict : Verdict) × IsVerdict cert verdict
 some-verdict cert = on (some-rise cert.left.rows) (some-rise cert.right.rows) where
   reached : FallsOnBothSides cert → HasFirstPairs cert → HasEnough cert → Decided (LeftIsReached cert) → Decided (RightIsReached cert) → (verdict : Verdict) × IsVerdict cert verdict
-  reached falls first enough (inr no) right = (Left, (falls, first, enough, no))
-  reached falls first enough (inl left) (inr no) = (Right, (falls, first, enough, left, no))
+  reached falls first enough (inr never) right = (Left, (falls, first, enough, never))
+  reached falls first enough (inl left) (inr never) = (Right, (falls, first, enough, left, never))
   reached falls first enough (inl left) (inl right) = (Yes, record { falls = falls; pairs = first; enough = enough; left = left; right = right })
 
   claimed : FallsOnBothSides cert → Decided (HasFirstPairs cert) → Decided (HasEnough cert) → (verdict : Verdict) × IsVerdict cert verdict
-  claimed falls (inr no) enough = (Pairs, (falls, no))
-  claimed falls (inl first) (inr no) = (Short, (falls, first, no))
+  claimed falls (inr never) enough = (Pairs, (falls, never))
+  claimed falls (inl first) (inr never) = (Short, (falls, first, never))
   claimed falls (inl first) (inl enough) = reached falls first enough (decided-where cert.left.ended (decided-at _ _ _ _ _)) (decided-where cert.right.ended (decided-at _ _ _ _ _))
 
   on : Falls cert.left.rows ⊎ ((n : ℕ) × RisesFirstAt cert.left.rows n) → Falls cert.right.rows ⊎ ((n : ℕ) × RisesFirstAt cert.right.rows n) → (verdict : Verdict) × IsVerdict cert verdict

@@ -20,7 +20,7 @@ loop-index-init c = record {
   drawn = record { left_draws = ap (λ (join : FeedJoinState). join.left.draws) c.requires.undrawn; right_draws = ap (λ (join : FeedJoinState). join.right.draws) c.requires.undrawn };
   left_counted = subst (λ (join : FeedJoinState). IsCounted join.left) (sym c.requires.undrawn) refl;
   right_counted = subst (λ (join : FeedJoinState). IsCounted join.right) (sym c.requires.undrawn) refl;
-  pairs = c.new-pairs.new.ensures.items;
+  pairs = c.new-pairs.ensures.items;
   so_far = certified-first c.args.left.now.rows c.args.right.now.rows c.args.count;
 }
 
