@@ -48,7 +48,7 @@ module _ (left right : List ℕ) where
   }
 
 -- a fault of a fetch that is told more loosely
-pub fetches-loosely : {A : Type 0} {Tells Others : WordFault → Type 0} (file : List ℕ) (result : Result A WordFault) (gives : Option (List ℕ) → Result A WordFault → Type 0) (old new : Outside FilesTold)
+unfoldable pub fetches-loosely : {A : Type 0} {Tells Others : WordFault → Type 0} (file : List ℕ) (result : Result A WordFault) (gives : Option (List ℕ) → Result A WordFault → Type 0) (old new : Outside FilesTold)
     → ((why : WordFault) → Tells why → Others why) → FetchesFile Memory Tells file result gives old new → FetchesFile Memory Others file result gives old new
 fetches-loosely {A} {Tells} {Others} file result gives old new loosely f = record { there = f.there; is_told = f.is_told; does = go f.does; keeps = f.keeps } where
   go : (NotFetched {A = A} Memory result old new ⊎ FetchFails {A = A} Memory Tells file result old new) ⊎ Fetched {A = A} Memory file (gives f.there) result old new

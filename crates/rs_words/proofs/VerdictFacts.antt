@@ -1,7 +1,6 @@
 -- A certificate has one verdict, and a file is one certificate, or none from one record on.
-use Rattle.std.proofs.Common.{ℕ, zero, suc, ◌≡◌, ◌∙◌, ◌⊎◌, ◌+◌, ◌-◌, ◌<◌, ◌≤◌, Bool, true, false, List, [], ◌∷◌, ◌++◌, length, take, Option, Some, None, IfSome, Result, Ok, Err, refl, sym, ap, subst, inl, inr, append_assoc, append-nil, arith}
+use Rattle.std.proofs.Common.{ℕ, zero, suc, ◌≡◌, ◌∙◌, ◌⊎◌, ◌+◌, ◌-◌, ◌<◌, ◌≤◌, Bool, true, false, List, [], ◌∷◌, ◌++◌, length, take, Option, Some, None, Result, Ok, Err, refl, sym, ap, subst, inl, inr, append_assoc, append-nil, arith}
 use Rattle.std.proofs.lemmas.Bool.{true≢false}
-use Rattle.std.proofs.lemmas.Bool.Decides.{nat_tests}
 use Rattle.std.proofs.lemmas.List.{length-append, take-append-le, take-take, take_all}
 use Rattle.std.specs.Ordering.{flip_args, nat_cmp}
 use Rattle.rs_value.specs.Results.{◌>>=◌}
@@ -12,7 +11,7 @@ use Rattle.rs_cert.specs.declared.fault.CertFault.TheVariants.{Form, Memory}
 use Rattle.rs_cert.specs.declared.verdict.Verdict.{Verdict}
 use Rattle.rs_cert.specs.declared.verdict.Verdict.TheVariants.{Yes, Order, Pairs, Short, Left, Right}
 use Rattle.rs_cert.specs.Csv.{Fields}
-use Rattle.rs_cert.specs.Good.{FallsOnBothSides, HasEnough, HasFirstPairs, IsAtOrBefore, IsWhole, LeftIsReached, RightIsReached, answers_of, first_answers, no_pair_can_come}
+use Rattle.rs_cert.specs.Good.{FallsOnBothSides, HasEnough, HasFirstPairs, IsAtOrBefore, LeftIsReached, RightIsReached, answers_of, first_answers, no_pair_can_come}
 use Rattle.rs_cert.specs.Growing.{cert_of, new_cert, next_cert, or_form, with_records}
 use Rattle.rs_cert.specs.Pairs.{Answer, numbers_of}
 use Rattle.rs_cert.specs.Records.{AreRecordsOf, IsFirstStrange, IsForm, IsRead, entry_of, wanted_of}

@@ -1,4 +1,4 @@
-use Rattle.std.proofs.Common.{◌∙◌, List, ℕ, Ok, [], ◌∷◌, subst, sym, ap}
+use Rattle.std.proofs.Common.{List, ℕ, [], ◌∷◌, subst, sym}
 use Rattle.rs_value.proofs.ResultFacts.{given-err}
 use Rattle.rs_events.specs.Run.{lines_run}
 use Rattle.rs_events.specs.Running.{Ran}
