@@ -102,12 +102,13 @@ def read(text):
     return number(head[2], 1000000), sides, ended, pairs
 
 
-def check(cert):
-    """Whether a certificate is good, or the first part of it that fails."""
+def verdict(cert):
+    """Whether a certificate is good, or the first part of it that fails, as it is printed."""
     wanted, sides, ended, pairs = cert
-    for rows in sides:
-        if any(rows[i][0] > rows[i - 1][0] for i in range(1, len(rows))):
-            return "Order"
+    for side, rows in enumerate(sides, 1):
+        for i in range(1, len(rows)):
+            if rows[i][0] > rows[i - 1][0]:
+                return f"Order side {side} row {i + 1}"
     lefts, rights = sides
     key = lambda i, j: (-(lefts[i][0] + rights[j][0]), i + 1, j + 1)
     answers = sorted(key(i, j) for i in range(len(lefts)) for j in range(len(rights)) if lefts[i][1] == rights[j][1])
@@ -124,9 +125,39 @@ def check(cert):
     return "yes"
 
 
+def check(cert):
+    return verdict(cert).split()[0]
+
+
 def said(text):
     cert = read(text)
     return ("Form", cert) if isinstance(cert, int) else (check(cert), 0)
+
+
+def line(text):
+    """What the word `check` prints of a file, or the end of the line of its fault."""
+    cert = read(text)
+    if isinstance(cert, int):
+        return f"CertForm record {cert}"
+    found = verdict(cert)
+    return found if found == "yes" else f"no {found}"
+
+
+def quoted(text):
+    if not any(sign in text for sign in (b",", b'"', b"\r", b"\n")) and text:
+        return text
+    return b'"' + text.replace(b'"', b'""') + b'"' if text else b""
+
+
+def written(wanted, sides, draws, pairs):
+    """The certificate of these pairs, where so many draws were made on both sides of feeds with these rows: scores and texts."""
+    made = [b"cert,1,%d" % wanted]
+    for name, rows, drawn in zip((b"left", b"right"), sides, draws):
+        made += [b"%s,%d,%s" % (name, score, quoted(text)) for text, score in rows[:drawn]]
+        if drawn > len(rows):
+            made.append(b"%s,end,end" % name)
+    made += [b"pair,%d,%d" % pair for pair in pairs]
+    return b"".join(record + b"\n" for record in made)
 
 
 def changed(text):
@@ -144,8 +175,7 @@ def changed(text):
 def main():
     if len(sys.argv) > 1:
         with open(sys.argv[1], "rb") as file:
-            kind, place = said(file.read())
-        print(f"CertForm record {place}" if kind == "Form" else kind if kind == "yes" else f"no {kind}")
+            print(line(file.read()))
         return
     for text in (FIRST, WHOLE):
         print(said(text), *changed(text))

@@ -8,7 +8,7 @@ export LC_ALL=C
 root=$(cd "$(dirname "$0")/.." && pwd -P)
 built=$root/crates/ranksql/out/ranksql
 program=${RANKSQL:-$built}
-usage='usage: ranksql top FILE COLUMN MAX K, run SCRIPT SEED, plain SCRIPT, gen NUMBER ROWS, ta SCRIPT, feed LEFT RIGHT K'
+usage='usage: ranksql top FILE COLUMN MAX K, run SCRIPT SEED, plain SCRIPT, gen NUMBER ROWS, ta SCRIPT, feed LEFT RIGHT K, cert LEFT RIGHT K, check FILE'
 if [ ! -x "$program" ]; then
     echo "there is no program $program: ./ranksql builds it" >&2
     exit 1
@@ -512,6 +512,32 @@ expect 'a K beyond 1,000,000' 2 '' "$usage"$'\n' -- feed fl.csv fr.csv 1000001
 echo $? >"$work/said/status"
 text=$(cat "$root/examples/feeds/best.out" && echo .)
 compare 'the guides of the example' 0 "${text%.}" ''
+
+# ---- certificates
+printf 'cert,1,1\nleft,9,a\nleft,8,b\nright,9,b\nright,6,a\npair,2,1\n' >c.csv
+expect 'the certificate of the first pair' 0 $'cert,1,1\nleft,9,a\nleft,8,b\nright,9,b\nright,6,a\npair,2,1\n' '' -- cert fl.csv fr.csv 1
+expect 'a certificate that proves its answer' 0 $'yes\n' '' -- check c.csv
+grep -v 'right,6,a' c.csv >c2.csv
+expect 'a right row that could still come' 0 $'no Right\n' '' -- check c2.csv
+sed 's/pair,2,1/pair,1,1/' c.csv >c3.csv
+expect 'a pair of rows with other texts' 0 $'no Pairs\n' '' -- check c3.csv
+sed 's/right,6,a/right,10,a/' c.csv >c4.csv
+expect 'a score that rises' 0 $'no Order side 2 row 2\n' '' -- check c4.csv
+printf 'left,9,a\n' >c5.csv
+expect 'a file that is no certificate' 6 '' $'table: c5.csv: CertForm record 1\n' -- check c5.csv
+expect 'a certificate of a feed out of order' 6 '' $'table: fr2.csv: OutOfOrder row 3 before 6 got 7\n' -- cert fl.csv fr2.csv 9
+expect 'a certificate without its file' 3 '' $'read: nope.csv: missing\n' -- check nope.csv
+expect 'check with a number' 2 '' "$usage"$'\n' -- check c.csv 1
+(cd "$root" && timeout 60 "$program" cert examples/feeds/restaurants.csv examples/feeds/hotels.csv 5 >"$work/said/out" 2>"$work/said/err" </dev/null)
+echo $? >"$work/said/status"
+text=$(cat "$root/examples/feeds/best.cert" && echo .)
+compare 'the certificate of the example' 0 "${text%.}" ''
+for of in best:yes 'changed:no Right'; do
+    (cd "$root" && timeout 60 "$program" check "examples/feeds/${of%%:*}.cert" >"$work/said/out" 2>"$work/said/err" </dev/null)
+    echo $? >"$work/said/status"
+    compare "the check of ${of%%:*}.cert" 0 "${of#*:}"$'\n' ''
+done
+
 # The index of the example calls its predicate for each of the 5,000 films. examples/films/README.md counts the other calls. Those under
 # `run` are also what checks/runs.py tells.
 # count NAME WANTED WORD..

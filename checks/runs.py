@@ -1,7 +1,7 @@
 #!/usr/bin/env python3
-"""Works out what the words `top`, `run`, `plain`, `gen`, `ta` and `feed` and the lines `guess` do in the cases of the program cases_runs whose files it can read, from the definitions.
+"""Works out what the words `top`, `run`, `plain`, `gen`, `ta`, `feed`, `cert` and `check` and the lines `guess` do in the cases of the program cases_runs whose files it can read, from the definitions.
 
-Queries, their plans and their calls are those of queries.py, threshold scans those of threshold.py, and what joins of feeds give and draw is that of feeds.py. The cases that it can't read stay as they are: those in which a
+Queries, their plans and their calls are those of queries.py, threshold scans those of threshold.py, what joins of feeds give and draw is that of feeds.py, and certificates are read and checked by certificates.py. The cases that it can't read stay as they are: those in which a
 name, a type or a file of a script is refused, and words of no form. Of refused scripts it reads those that pass a limit or
 aren't UTF-8, and those whose INSERT is refused. This makes the cases anew, at the top of the repository:
 
@@ -29,6 +29,7 @@ import os
 import re
 import sys
 
+import certificates
 import feeds
 from generated import generated
 from queries import Block, Ended, Unread, Words, either, listed, read_query, total, value
@@ -393,6 +394,28 @@ class Run:
             raise Ended("Table", f"table: {names[side - 1]}: OutOfOrder row {row} before {before} got {got}")
         self.write("left=%d right=%d\n" % tuple(draws))
 
+    def cert(self, left, right, wanted):
+        """Puts the certificate of the first pairs of two feeds."""
+        names = [left, right]
+        sides = [self.feed_rows(name) for name in names]
+        given, (side, row, before, got), draws = feeds.joined(sides)
+        if wanted <= len(given):
+            side, draws = 0, given[wanted - 1][2:] if wanted else (0, 0)
+        if side:
+            raise Ended("Table", f"table: {names[side - 1]}: OutOfOrder row {row} before {before} got {got}")
+        for name, rows, drawn in zip(names, sides, draws):
+            if min(drawn, len(rows)) > 8192:
+                raise Ended("Table", f"table: {name}: CertTooLong")
+        told = [[(bytes_of(text), score) for text, score in rows] for rows in sides]
+        self.write(certificates.written(wanted, told, draws, [(i, j) for i, j, *_ in given[:wanted]]).decode())
+
+    def check_certificate(self, name):
+        """Puts whether a certificate proves its answer."""
+        told = certificates.line(bytes_of(self.fetch(name, MOST_OF_A_FILE)))
+        if told.startswith("CertForm"):
+            raise Ended("Table", f"table: {name}: {told}")
+        self.write(told + "\n")
+
     def feed_rows(self, name):
         """The rows of a file that is a feed."""
         try:
@@ -592,9 +615,9 @@ READ = "ta NotEligible statement|NotUtf8|lex NumberTooWide|lex TooManyTokens|par
 
 def can_be_read(words, old, files):
     """Whether a run of these words can be read, which ended so. Of scripts that are refused, only those can that pass a limit or whose INSERT is."""
-    if not re.fullmatch(r"top \S+ \S+ \d+ \d+|(plain|ta) \S+|(run|guess) \S+ \d+|gen \d+ \d+|feed \S+ \S+ \d+", words) or "  Usage" in old:
+    if not re.fullmatch(r"top \S+ \S+ \d+ \d+|(plain|ta) \S+|(run|guess) \S+ \d+|gen \d+ \d+|(feed|cert) \S+ \S+ \d+|check \S+", words) or "  Usage" in old:
         return False
-    if words.startswith(("top ", "feed ")) or not set(old) & {"  Script", "  Table"}:
+    if words.startswith(("top ", "feed ", "cert ", "check ")) or not set(old) & {"  Script", "  Table"}:
         return True
     return any(re.match(f"  err script: ({READ}) ", line) or is_of_insert(line, files[words.split()[1]]) for line in old)
 
@@ -617,6 +640,12 @@ def told(words, files, scores, fails):
     if word == "feed":
         run = Run(files, scores, fails, None)
         return run.told(run.feed, rest[0], rest[1], int(rest[2]))
+    if word == "cert":
+        run = Run(files, scores, fails, None)
+        return run.told(run.cert, rest[0], rest[1], int(rest[2]))
+    if word == "check":
+        run = Run(files, scores, fails, None)
+        return run.told(run.check_certificate, rest[0])
     run = Run(files, scores, fails, int(rest[1]) if word in ("run", "guess") else None, word == "guess")
     if word == "top":
         return run.told(run.top, rest[0], rest[1], int(rest[2]), int(rest[3]))

@@ -10,8 +10,10 @@ FORMS = {
     "gen": "ranksql gen NUMBER ROWS",
     "ta": "ranksql ta SCRIPT",
     "feed": "ranksql feed LEFT RIGHT K",
+    "cert": "ranksql cert LEFT RIGHT K",
+    "check": "ranksql check FILE",
 }
-WORDS = {"top": 5, "run": 3, "plain": 2, "gen": 3, "ta": 2, "feed": 4}
+WORDS = {"top": 5, "run": 3, "plain": 2, "gen": 3, "ta": 2, "feed": 4, "cert": 4, "check": 2}
 
 
 def of_usage(words):
@@ -56,6 +58,8 @@ def of_numbers(word, words):
         "gen": [(1, "NUMBER", 0, 4_294_967_295), (2, "ROWS", 1, 2_000)],
         "ta": [],
         "feed": [(3, "K", 0, 1_000_000)],
+        "cert": [(3, "K", 0, 1_000_000)],
+        "check": [],
     }
     for place, name, least, most in ranges[word]:
         text = words[place]

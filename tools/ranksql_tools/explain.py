@@ -74,11 +74,11 @@ def of_data(fault, words, body):
         parser, _ = parse(tokens_of(body))
     if fault.kind == "score" and words[:1] == ["top"]:
         lines, says = data_advice.of_top(fault, words[1], words[2])
-    elif fault.kind == "score" and words[:1] == ["feed"]:
+    elif fault.kind == "score" and words[:1] in (["feed"], ["cert"]):
         lines, says = data_advice.of_feed_score(fault, words[1:3])
     elif fault.kind == "score":
         token, lines, says = data_advice.of_score(fault, parser)
-    elif fault.kind == "table" and fault.variant == "HeaderDiffers" and words[:1] == ["feed"]:
+    elif fault.kind == "table" and fault.variant == "HeaderDiffers" and words[:1] in (["feed"], ["cert"]):
         lines, says = data_advice.of_feed_header(fault)
     elif fault.kind == "table":
         token, lines, says = data_advice.of_table(fault, parser)

@@ -41,9 +41,12 @@ use Rattle.rs_run.specs.Running.{IsFormRun, IsRun, IsRunOf, OfForm}
 use Rattle.rs_run.specs.Threshold.{DoesByScan, DoesNext, ScanState, ScansRun, counted_step, first_statement, scanned_step}
 use Rattle.rs_run.specs.Told.{told_step}
 use Rattle.rs_run.specs.Top.{top_lines}
-use Rattle.rs_words.proofs.RunFacts.{some-feed_run}
+use Rattle.rs_words.specs.Certifying.{joined_cert_run}
+use Rattle.rs_words.specs.Feeding.{pairs_run}
+use Rattle.rs_words.proofs.CheckedFacts.{some-check_run}
+use Rattle.rs_words.proofs.RunFacts.{some-words_run}
 use Rattle.rs_run.specs.FeedTold.{word_fault}
-use Rattle.rs_run.specs.Words.{Feed, Form, RunGenerated, RunScript, Threshold, Top, form_of}
+use Rattle.rs_run.specs.Words.{Certify, Check, Feed, Form, RunGenerated, RunScript, Threshold, Top, form_of}
 use Rattle.rs_run.specs.declared.fault.RunFault.{RunFault}
 use Rattle.rs_run.specs.declared.fault.RunFault.TheVariants.{NotEligible, Statement, Usage}
 use Rattle.rs_run.specs.declared.fault.ScriptWord.TheVariants.{Ta}
@@ -188,7 +191,9 @@ each_form finds has answer (Threshold name) =
     let there = has name in
     let run = script-has_run Statement (ScansRun finds answer) (each_scans finds has answer) finds name there.0 there.1 in
     (run.0, run.2)
-each_form finds has answer (Feed words) = let run = some-feed_run finds has words in (with_fault (word_fault words.left words.right) run.0, (run.0, run.1, refl))
+each_form finds has answer (Feed words) = let run = some-words_run pairs_run finds has words in (with_fault (word_fault words.left words.right) run.0, (run.0, run.1, refl))
+each_form finds has answer (Certify words) = let run = some-words_run joined_cert_run finds has words in (with_fault (word_fault words.left words.right) run.0, (run.0, run.1, refl))
+each_form finds has answer (Check file) = let run = some-check_run finds has file in (with_fault (word_fault file file) run.0, (run.0, run.1, refl))
 
 pub words-have_run : (finds : Finds) → HasFiles finds → (answer : Answering) (words : List (List ℕ)) → (run : WordsRun) × IsRun finds answer words run
 words-have_run finds has answer words = go (form_of words)

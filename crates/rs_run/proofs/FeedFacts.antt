@@ -1,4 +1,4 @@
--- The run of the word `feed`, with its faults told by the names of its files.
+-- The runs of the words over feeds and certificates, with their faults told by the names of their files.
 use Rattle.std.proofs.Common.{ℕ, ◌≡◌, ◌∙◌, ◌⊎◌, ◌++◌, List, [], ◌∷◌, Option, Some, None, Ok, Err, refl, sym, ap, subst, inl, inr}
 use Rattle.std.specs.Prelude.{option_map}
 use Rattle.rs_outside.specs.declared.files.FetchFault.TheVariants as fetch
@@ -13,16 +13,20 @@ use Rattle.rs_events.specs.Running.{Runs}
 use Rattle.rs_events.proofs.RanFacts.{calls-append}
 use Rattle.rs_words.specs.declared.fault.WordFault.{WordFault}
 use Rattle.rs_words.specs.declared.fault.WordFault.TheVariants as word
-use Rattle.rs_words.specs.Faults.{feed_faults}
-use Rattle.rs_words.specs.Feeding.{FeedWords, IsFeedRun}
-use Rattle.rs_words.proofs.RunFacts.{no-calls}
+use Rattle.rs_words.specs.Certifying.{IsCertRun}
+use Rattle.rs_words.specs.Checking.{IsCheckRun}
+use Rattle.rs_words.specs.Faults.{feed_faults, file_faults}
+use Rattle.rs_words.specs.Feeding.{IsFeedRun}
+use Rattle.rs_words.specs.TwoFeeds.{FeedWords}
+use Rattle.rs_words.proofs.CheckedFacts.{Runs-both, check-no_calls}
+use Rattle.rs_words.proofs.RunFacts.{cert-no_calls, feed-no_calls}
 use Rattle.rs_statement.specs.declared.fault.Fault.TheVariants as of_statement
 use Rattle.rs_run.specs.declared.fault.RunFault.{RunFault}
 use Rattle.rs_run.specs.declared.fault.RunFault.TheVariants.{Statement}
-use Rattle.rs_run.specs.Faults.{run_faults}
+use Rattle.rs_run.specs.Faults.{WordsRun, run_faults}
 use Rattle.rs_run.specs.FeedTold.{word_fault}
 use Rattle.rs_run.specs.Running.{IsFormRun}
-use Rattle.rs_run.specs.Words.{Feed}
+use Rattle.rs_run.specs.Words.{Certify, Check, Feed}
 
 -- a call of the scorer is none of the events of a run that has none
 no-call : (events done more : List Event) (call : Call) → calls events ≡ [] → events ≡ done ++ (Score call ∷ more) → ⊥
@@ -55,40 +59,70 @@ module _ (left right : List ℕ) where
   answers-err (Some own) why told (inl e) (inl same) = inl (ap Err (e ∙ ap (word_fault left right) (let f : why ≡ own = cc in f)))
   answers-err (Some own) why told (inl e) (inr same) = inr (ap Err (e ∙ ap (word_fault left right) (let f : why ≡ word.Memory = cc in f)))
 
-module _ (finds : Finds) (answer : Answering) (words : FeedWords) (old new : Environment) where
+-- a run of a word that calls no scorer, with its faults told so
+abbrev IsToldRun : List ℕ → List ℕ → (Run WordFault → Type 0) → WordsRun → Type 0
+IsToldRun left right of run = (own : Run WordFault) × of own × (run ≡ with_fault (word_fault left right) own)
+
+module _ (left right : List ℕ) (of : Run WordFault → Type 0) (silent : (run : Run WordFault) → of run → calls run.events ≡ []) (old new : Environment) where
   -- no call of the scorer halts it
-  never : (run : Run WordFault) (done rest : List Event) (halt : Halt) → IsFeedRun finds words run → run.events ≡ done ++ rest → HaltsAt halt rest old new → (call : Call) → halt ≡ CallFailed call → ⊥
+  never : (run : Run WordFault) (done rest : List Event) (halt : Halt) → of run → run.events ≡ done ++ rest → HaltsAt halt rest old new → (call : Call) → halt ≡ CallFailed call → ⊥
   never run done rest halt is split halts call e =
       let at = subst (λ h. HaltsAt h rest old new) e halts in
-      no-call run.events done at.0 call (no-calls finds words run is) (split ∙ ap (λ r. done ++ r) at.1)
+      no-call run.events done at.0 call (silent run is) (split ∙ ap (λ r. done ++ r) at.1)
 
-  pub Runs-feed_ok : Runs (feed_faults words.left words.right) (IsFeedRun finds words) (Ok tt) old new → Runs run_faults (IsFormRun finds answer (Feed words)) (Ok tt) old new
-  Runs-feed_ok made =
+  Runs-told_ok : Runs (feed_faults left right) of (Ok tt) old new → Runs run_faults (IsToldRun left right of) (Ok tt) old new
+  Runs-told_ok made =
       let ran = made.ran in record {
-        run = with_fault (word_fault words.left words.right) made.run;
+        run = with_fault (word_fault left right) made.run;
         is = (made.run, made.is, refl);
         ran = record {
           halt = ran.halt;
           did = ran.did;
-          fault = option_map (word_fault words.left words.right) ran.fault;
-          is_fault = fault-told words.left words.right made.run.fault ran.halt ran.fault (never made.run ran.did.done ran.did.rest ran.halt made.is ran.did.split ran.did.halts) ran.is_fault;
-          answers = answers-ok words.left words.right ran.fault ran.answers;
+          fault = option_map (word_fault left right) ran.fault;
+          is_fault = fault-told left right made.run.fault ran.halt ran.fault (never made.run ran.did.done ran.did.rest ran.halt made.is ran.did.split ran.did.halts) ran.is_fault;
+          answers = answers-ok left right ran.fault ran.answers;
           keeps = ran.keeps;
         };
       }
+
+  Runs-told_err : (why : WordFault) (told : RunFault) → (told ≡ word_fault left right why) ⊎ (told ≡ Statement of_statement.Memory) → Runs (feed_faults left right) of (Err why) old new
+      → Runs run_faults (IsToldRun left right of) (Err told) old new
+  Runs-told_err why told is made =
+      let ran = made.ran in record {
+        run = with_fault (word_fault left right) made.run;
+        is = (made.run, made.is, refl);
+        ran = record {
+          halt = ran.halt;
+          did = ran.did;
+          fault = option_map (word_fault left right) ran.fault;
+          is_fault = fault-told left right made.run.fault ran.halt ran.fault (never made.run ran.did.done ran.did.rest ran.halt made.is ran.did.split ran.did.halts) ran.is_fault;
+          answers = answers-err left right ran.fault why told is ran.answers;
+          keeps = ran.keeps;
+        };
+      }
+
+-- the words over two feeds
+module _ (finds : Finds) (answer : Answering) (words : FeedWords) (old new : Environment) where
+  pub Runs-feed_ok : Runs (feed_faults words.left words.right) (IsFeedRun finds words) (Ok tt) old new → Runs run_faults (IsFormRun finds answer (Feed words)) (Ok tt) old new
+  Runs-feed_ok made = Runs-told_ok words.left words.right (IsFeedRun finds words) (feed-no_calls finds words) old new made
 
   pub Runs-feed_err : (why : WordFault) (told : RunFault) → (told ≡ word_fault words.left words.right why) ⊎ (told ≡ Statement of_statement.Memory) → Runs (feed_faults words.left words.right) (IsFeedRun finds words) (Err why) old new
       → Runs run_faults (IsFormRun finds answer (Feed words)) (Err told) old new
-  Runs-feed_err why told is made =
-      let ran = made.ran in record {
-        run = with_fault (word_fault words.left words.right) made.run;
-        is = (made.run, made.is, refl);
-        ran = record {
-          halt = ran.halt;
-          did = ran.did;
-          fault = option_map (word_fault words.left words.right) ran.fault;
-          is_fault = fault-told words.left words.right made.run.fault ran.halt ran.fault (never made.run ran.did.done ran.did.rest ran.halt made.is ran.did.split ran.did.halts) ran.is_fault;
-          answers = answers-err words.left words.right ran.fault why told is ran.answers;
-          keeps = ran.keeps;
-        };
-      }
+  Runs-feed_err why told is made = Runs-told_err words.left words.right (IsFeedRun finds words) (feed-no_calls finds words) old new why told is made
+
+  pub Runs-cert_ok : Runs (feed_faults words.left words.right) (IsCertRun finds words) (Ok tt) old new → Runs run_faults (IsFormRun finds answer (Certify words)) (Ok tt) old new
+  Runs-cert_ok made = Runs-told_ok words.left words.right (IsCertRun finds words) (cert-no_calls finds words) old new made
+
+  pub Runs-cert_err : (why : WordFault) (told : RunFault) → (told ≡ word_fault words.left words.right why) ⊎ (told ≡ Statement of_statement.Memory) → Runs (feed_faults words.left words.right) (IsCertRun finds words) (Err why) old new
+      → Runs run_faults (IsFormRun finds answer (Certify words)) (Err told) old new
+  Runs-cert_err why told is made = Runs-told_err words.left words.right (IsCertRun finds words) (cert-no_calls finds words) old new why told is made
+
+-- the word over one file, which stands for both
+module _ (finds : Finds) (answer : Answering) (file : List ℕ) (old new : Environment) where
+  pub Runs-check_ok : Runs (file_faults file) (IsCheckRun finds file) (Ok tt) old new → Runs run_faults (IsFormRun finds answer (Check file)) (Ok tt) old new
+  Runs-check_ok made = Runs-told_ok file file (IsCheckRun finds file) (check-no_calls finds file) old new (Runs-both file (IsCheckRun finds file) (Ok tt) old new made)
+
+  pub Runs-check_err : (why : WordFault) (told : RunFault) → (told ≡ word_fault file file why) ⊎ (told ≡ Statement of_statement.Memory) → Runs (file_faults file) (IsCheckRun finds file) (Err why) old new
+      → Runs run_faults (IsFormRun finds answer (Check file)) (Err told) old new
+  Runs-check_err why told is made =
+      Runs-told_err file file (IsCheckRun finds file) (check-no_calls finds file) old new why told is (Runs-both file (IsCheckRun finds file) (Err why) old new made)

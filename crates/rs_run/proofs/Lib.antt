@@ -1,6 +1,7 @@
 pub mod Worked
 pub mod WorkedScans
 pub mod FeedFacts
+pub mod WordFacts
 pub mod EachFacts
 pub mod RunFacts
 pub mod ScanFacts

@@ -12,9 +12,12 @@ use Rattle.rs_syntax.specs.declared.fault.SyntaxFault.{SyntaxFault}
 use Rattle.rs_syntax.proofs.ScriptFacts.{Parses-one, Refuses-one, IsSound-not_refused}
 use Rattle.rs_statement.specs.declared.fault.Fault.TheVariants.{Script}
 use Rattle.rs_statement.specs.declared.script_fault.ScriptFault.TheVariants.{Lex, Parse}
-use Rattle.rs_words.proofs.RunFacts.{IsFeedRun-one}
+use Rattle.rs_words.specs.Certifying.{joined_cert_run}
+use Rattle.rs_words.specs.Feeding.{pairs_run}
+use Rattle.rs_words.proofs.CheckedFacts.{IsCheckRun-one}
+use Rattle.rs_words.proofs.RunFacts.{one-run}
 use Rattle.rs_run.specs.FeedTold.{word_fault}
-use Rattle.rs_run.specs.Words.{Feed, Form, RunGenerated, RunScript, Threshold, Top, form_of}
+use Rattle.rs_run.specs.Words.{Certify, Check, Feed, Form, RunGenerated, RunScript, Threshold, Top, form_of}
 use Rattle.rs_run.specs.Top.{top_lines}
 use Rattle.rs_run.specs.Plain.{HasTokens, HasStatements, ScriptRuns, TextRuns, as_it_is, unlexed, unparsed, runs, unread, read, source_of}
 use Rattle.rs_expr.specs.Scoring.{Answering}
@@ -101,6 +104,8 @@ IsRunOf-one finds one answer (RunGenerated number rows) run other p q =
     (Statements-one (finds_generated number rows) own answer (Planned (ByScores number))) (finds_generated number rows) own script_name p.0 q.0 p.1 q.1) ∙ sym q.2
 IsRunOf-one finds one answer (Threshold name) run other p q = absurd p
 IsRunOf-one finds one answer (Feed words) run other p q = absurd p
+IsRunOf-one finds one answer (Certify words) run other p q = absurd p
+IsRunOf-one finds one answer (Check file) run other p q = absurd p
 
 -- a statement does one thing at most where queries are answered by scans
 DoesByScan-one : (finds : Finds) → OneFile finds → (answer : Answering) (number : ℕ) (catalogue : CatalogDef) (command : Command) (a b : Step RunFault CatalogDef)
@@ -142,7 +147,9 @@ IsFormRun-one finds one answer form run other p q = go form p q where
       ScriptRuns-one Statement (ScansRun finds answer)
       (λ commands a b p q. RunOf-one (DoesNext finds answer) (λ state command a b p q. DoesNext-one finds one answer state command a b p q) first_statement commands a b p q)
       finds one name run other p q
-  go (Feed words) p q = p.2 ∙ ap (with_fault (word_fault words.left words.right)) (IsFeedRun-one finds one words p.0 q.0 p.1 q.1) ∙ sym q.2
+  go (Feed words) p q = p.2 ∙ ap (with_fault (word_fault words.left words.right)) (one-run pairs_run finds one words p.0 q.0 p.1 q.1) ∙ sym q.2
+  go (Certify words) p q = p.2 ∙ ap (with_fault (word_fault words.left words.right)) (one-run joined_cert_run finds one words p.0 q.0 p.1 q.1) ∙ sym q.2
+  go (Check file) p q = p.2 ∙ ap (with_fault (word_fault file file)) (IsCheckRun-one finds one file p.0 q.0 p.1 q.1) ∙ sym q.2
 
 pub IsRun-one : (finds : Finds) → OneFile finds → (answer : Answering) (words : List (List ℕ)) (run other : WordsRun) → IsRun finds answer words run → IsRun finds answer words other → run ≡ other
 IsRun-one finds one answer words run other = go (form_of words) where

@@ -10,7 +10,7 @@ use Rattle.rs_events.specs.Run.{fails}
 use Rattle.rs_events.specs.Running.{Runs}
 use Rattle.rs_statement.specs.declared.fault.Fault.TheVariants as of_statement
 use Rattle.rs_run.specs.declared.fault.RunFault.{RunFault}
-use Rattle.rs_run.specs.declared.fault.RunFault.TheVariants.{NotEligible, Order, Statement, Usage}
+use Rattle.rs_run.specs.declared.fault.RunFault.TheVariants.{CertForm, CertTooLong, NotEligible, Order, Statement, Usage}
 use Rattle.rs_run.specs.declared.status.Status.{Status}
 use Rattle.rs_run.specs.declared.status.Status.TheVariants as status
 use Rattle.rs_run.specs.Faults.{WordsRun, run_faults, status_of}
@@ -50,6 +50,8 @@ is_done None s (inl e) done = refl
 is_done (Some Usage) s (inl e) done = absurd cc
 is_done (Some (NotEligible word statement)) s (inl e) done = absurd cc
 is_done (Some (Order name row before got)) s (inl e) done = absurd cc
+is_done (Some (CertTooLong name)) s (inl e) done = absurd cc
+is_done (Some (CertForm name place)) s (inl e) done = absurd cc
 is_done (Some (Statement of_statement.Memory)) s (inl e) done = absurd cc
 is_done (Some (Statement (of_statement.Read name why))) s (inl e) done = absurd cc
 is_done (Some (Statement of_statement.Write)) s (inl e) done = absurd cc
@@ -65,6 +67,8 @@ is_usage None s (inl e) usage = absurd cc
 is_usage (Some Usage) s (inl e) usage = refl
 is_usage (Some (NotEligible word statement)) s (inl e) usage = absurd cc
 is_usage (Some (Order name row before got)) s (inl e) usage = absurd cc
+is_usage (Some (CertTooLong name)) s (inl e) usage = absurd cc
+is_usage (Some (CertForm name place)) s (inl e) usage = absurd cc
 is_usage (Some (Statement of_statement.Memory)) s (inl e) usage = absurd cc
 is_usage (Some (Statement (of_statement.Read name why))) s (inl e) usage = absurd cc
 is_usage (Some (Statement of_statement.Write)) s (inl e) usage = absurd cc
@@ -80,6 +84,8 @@ is_write None s (inl e) write = absurd cc
 is_write (Some Usage) s (inl e) write = absurd cc
 is_write (Some (NotEligible word statement)) s (inl e) write = absurd cc
 is_write (Some (Order name row before got)) s (inl e) write = absurd cc
+is_write (Some (CertTooLong name)) s (inl e) write = absurd cc
+is_write (Some (CertForm name place)) s (inl e) write = absurd cc
 is_write (Some (Statement of_statement.Memory)) s (inl e) write = absurd cc
 is_write (Some (Statement (of_statement.Read name why))) s (inl e) write = absurd cc
 is_write (Some (Statement of_statement.Write)) s (inl e) write = refl
@@ -95,6 +101,8 @@ is_probe None s (inl e) probe = absurd cc
 is_probe (Some Usage) s (inl e) probe = absurd cc
 is_probe (Some (NotEligible word statement)) s (inl e) probe = absurd cc
 is_probe (Some (Order name row before got)) s (inl e) probe = absurd cc
+is_probe (Some (CertTooLong name)) s (inl e) probe = absurd cc
+is_probe (Some (CertForm name place)) s (inl e) probe = absurd cc
 is_probe (Some (Statement of_statement.Memory)) s (inl e) probe = absurd cc
 is_probe (Some (Statement (of_statement.Read name why))) s (inl e) probe = absurd cc
 is_probe (Some (Statement of_statement.Write)) s (inl e) probe = absurd cc

@@ -10,11 +10,11 @@ use Rattle.rs_statement.specs.declared.fault.Fault.{Fault}
 use Rattle.rs_run.specs.declared.fault.RunFault.{RunFault}
 use Rattle.rs_words.specs.declared.fault.WordFault.{WordFault}
 use Rattle.rs_words.specs.declared.fault.WordFault.TheVariants as word
-use Rattle.rs_words.proofs.FaultFacts.{EndsByNoPut, feed-no_put}
+use Rattle.rs_words.proofs.FaultFacts.{EndsByNoPut, cert-no_put, check-no_put, feed-no_put}
 use Rattle.rs_run.specs.FeedTold.{word_fault}
-use Rattle.rs_run.specs.declared.fault.RunFault.TheVariants.{NotEligible, Order, Statement, Usage}
+use Rattle.rs_run.specs.declared.fault.RunFault.TheVariants.{CertForm, CertTooLong, NotEligible, Order, Statement, Usage}
 use Rattle.rs_run.specs.Faults.{WordsRun}
-use Rattle.rs_run.specs.Words.{Feed, Form, RunGenerated, RunScript, Threshold, Top, TopWords}
+use Rattle.rs_run.specs.Words.{Certify, Check, Feed, Form, RunGenerated, RunScript, Threshold, Top, TopWords}
 use Rattle.rs_statement.specs.Content.{content_of, or_table_fault, table_limit}
 use Rattle.rs_run.specs.Top.{best_rows, named_table, number_at, ranked_lines, scored_rows, top_lines, top_table}
 use Rattle.rs_run.specs.Plain.{ScriptRuns, TextRuns, as_it_is, unlexed, unparsed, runs, unread, read, or_text_fault, script_limit, source_of, without_mark}
@@ -90,6 +90,8 @@ OwnFault form None = Unit {0}
 OwnFault form (Some Usage) = form ≡ None
 OwnFault form (Some (NotEligible word statement)) = Unit {0}
 OwnFault form (Some (Order name row before got)) = Unit {0}
+OwnFault form (Some (CertTooLong name)) = Unit {0}
+OwnFault form (Some (CertForm name place)) = Unit {0}
 OwnFault form (Some (Statement fault)) = IsOwn fault
 
 OwnFault-end : (form : Option Form) (fault : Option Fault) → OwnEnd fault → OwnFault form (option_map Statement fault)
@@ -110,12 +112,16 @@ OwnEnd-form finds answer (RunGenerated number rows) run is =
     subst (λ (r : Run). OwnEnd r.fault) (sym is.2) (Own-script (finds_generated number rows) answer (Planned (ByScores number)) script_name is.0 is.1)
 OwnEnd-form finds answer (Threshold name) run is = absurd is
 OwnEnd-form finds answer (Feed words) run is = absurd is
+OwnEnd-form finds answer (Certify words) run is = absurd is
+OwnEnd-form finds answer (Check file) run is = absurd is
 
 -- the faults of words that have some of their own: never Usage, and of those of statements the same ones
 unfoldable OwnTold : RunFault → Type 0
 OwnTold Usage = ⊥
 OwnTold (NotEligible word statement) = Unit {0}
 OwnTold (Order name row before got) = Unit {0}
+OwnTold (CertTooLong name) = Unit {0}
+OwnTold (CertForm name place) = Unit {0}
 OwnTold (Statement fault) = IsOwn fault
 
 unfoldable OwnOutcome : {A : Type 0} → Result A RunFault → Type 0
@@ -240,9 +246,11 @@ OwnFault-told form None own = tt
 OwnFault-told form (Some Usage) own = absurd own
 OwnFault-told form (Some (NotEligible word statement)) own = tt
 OwnFault-told form (Some (Order name row before got)) own = tt
+OwnFault-told form (Some (CertTooLong name)) own = tt
+OwnFault-told form (Some (CertForm name place)) own = tt
 OwnFault-told form (Some (Statement fault)) own = own
 
--- the faults of the word `feed`
+-- the faults of the words over feeds and certificates
 OwnRun-feed : (left right : List ℕ) (fault : Option WordFault) → EndsByNoPut fault → OwnRun (option_map (word_fault left right) fault)
 unfolding OwnRun OwnTold IsOwn
 OwnRun-feed left right None own = tt
@@ -251,6 +259,8 @@ OwnRun-feed left right (Some word.Write) own = own
 OwnRun-feed left right (Some (word.Table file why)) own = tt
 OwnRun-feed left right (Some (word.Range file why)) own = tt
 OwnRun-feed left right (Some (word.Order side row before got)) own = tt
+OwnRun-feed left right (Some (word.CertTooLong file)) own = tt
+OwnRun-feed left right (Some (word.CertForm place)) own = tt
 OwnRun-feed left right (Some word.Memory) own = tt
 
 form_fault : (finds : Finds) (answer : Answering) (form : Form) (run : WordsRun) → IsFormRun finds answer form run → OwnFault (Some form) run.fault
@@ -266,6 +276,10 @@ form_fault finds answer form run is = go form is where
       (OwnRun-script finds (ScansRun finds answer) (λ commands run is. OwnRun-of (DoesNext finds answer) (OwnOutcome-next finds answer) first_statement commands run is) name run is)
   go (Feed words) is = OwnFault-told (Feed words) run.fault
       (subst (λ (r : WordsRun). OwnRun r.fault) (sym is.2) (OwnRun-feed words.left words.right is.0.fault (feed-no_put finds words is.0 is.1)))
+  go (Certify words) is = OwnFault-told (Certify words) run.fault
+      (subst (λ (r : WordsRun). OwnRun r.fault) (sym is.2) (OwnRun-feed words.left words.right is.0.fault (cert-no_put finds words is.0 is.1)))
+  go (Check file) is = OwnFault-told (Check file) run.fault
+      (subst (λ (r : WordsRun). OwnRun r.fault) (sym is.2) (OwnRun-feed file file is.0.fault (check-no_put finds file is.0 is.1)))
 
 pub own_fault : (finds : Finds) (answer : Answering) (form : Option Form) (run : WordsRun) → OfForm finds answer form run → OwnFault form run.fault
 unfolding OwnFault

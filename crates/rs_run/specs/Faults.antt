@@ -8,7 +8,7 @@ use Rattle.rs_events.specs.Run as events
 use Rattle.rs_statement.specs.declared.fault.Fault.TheVariants as fault
 use Rattle.rs_statement.specs.Faults.{fault_line}
 use Rattle.rs_run.specs.declared.fault.RunFault.{RunFault}
-use Rattle.rs_run.specs.declared.fault.RunFault.TheVariants.{NotEligible, Order, Statement, Usage}
+use Rattle.rs_run.specs.declared.fault.RunFault.TheVariants.{CertForm, CertTooLong, NotEligible, Order, Statement, Usage}
 use Rattle.rs_run.specs.declared.fault.ScriptWord.{ScriptWord}
 use Rattle.rs_run.specs.declared.fault.ScriptWord.TheVariants.{Ta}
 use Rattle.rs_run.specs.declared.status.Status.{Status}
@@ -33,6 +33,8 @@ status_of None = status.Done
 status_of (Some Usage) = status.Usage
 status_of (Some (NotEligible word statement)) = status.Script
 status_of (Some (Order name row before got)) = status.Table
+status_of (Some (CertTooLong name)) = status.Table
+status_of (Some (CertForm name place)) = status.Table
 status_of (Some (Statement fault.Memory)) = status.Memory
 status_of (Some (Statement (fault.Read name why))) = status.Read
 status_of (Some (Statement fault.Write)) = status.Write
@@ -48,8 +50,10 @@ word_name Ta = codes "ta"
 
 -- the line of a fault
 abbrev pub run_fault_line : RunFault → List ℕ
-run_fault_line Usage = codes "usage: ranksql top FILE COLUMN MAX K, run SCRIPT SEED, plain SCRIPT, gen NUMBER ROWS, ta SCRIPT, feed LEFT RIGHT K\n"
+run_fault_line Usage = codes "usage: ranksql top FILE COLUMN MAX K, run SCRIPT SEED, plain SCRIPT, gen NUMBER ROWS, ta SCRIPT, feed LEFT RIGHT K, cert LEFT RIGHT K, check FILE\n"
 run_fault_line (NotEligible word statement) = codes "script: " ++ word_name word ++ codes " NotEligible statement " ++ decimal statement ++ 10 ∷ []
 run_fault_line (Order name row before got) =
     codes "table: " ++ name ++ codes ": OutOfOrder row " ++ decimal row ++ codes " before " ++ decimal before ++ codes " got " ++ decimal got ++ 10 ∷ []
+run_fault_line (CertTooLong name) = codes "table: " ++ name ++ codes ": CertTooLong\n"
+run_fault_line (CertForm name place) = codes "table: " ++ name ++ codes ": CertForm record " ++ decimal place ++ 10 ∷ []
 run_fault_line (Statement why) = fault_line why

@@ -10,9 +10,11 @@ use Rattle.rs_syntax.specs.Syntax.{Command}
 use Rattle.rs_run.specs.Faults.{WordsRun}
 use Rattle.rs_run.specs.declared.fault.RunFault.TheVariants.{Statement, Usage}
 use Rattle.rs_words.specs.declared.fault.WordFault.{WordFault}
+use Rattle.rs_words.specs.Certifying.{IsCertRun}
+use Rattle.rs_words.specs.Checking.{IsCheckRun}
 use Rattle.rs_words.specs.Feeding.{IsFeedRun}
 use Rattle.rs_run.specs.FeedTold.{word_fault}
-use Rattle.rs_run.specs.Words.{Feed, Form, RunGenerated, RunScript, Threshold, Top, form_of}
+use Rattle.rs_run.specs.Words.{Certify, Check, Feed, Form, RunGenerated, RunScript, Threshold, Top, form_of}
 use Rattle.rs_run.specs.Top.{top_lines}
 use Rattle.rs_run.specs.Plain.{HasStatements, ScriptRuns, as_it_is, source_of}
 use Rattle.rs_run.specs.Threshold.{ScansRun}
@@ -44,6 +46,8 @@ IsRunOf finds answer _ run = ⊥
 abbrev pub IsFormRun : Finds → Answering → Form → WordsRun → Type 0
 IsFormRun finds answer (Threshold name) run = ScriptRuns Statement finds (ScansRun finds answer) name run
 IsFormRun finds answer (Feed words) run = (own : events.Run WordFault) × IsFeedRun finds words own × (run ≡ with_fault (word_fault words.left words.right) own)
+IsFormRun finds answer (Certify words) run = (own : events.Run WordFault) × IsCertRun finds words own × (run ≡ with_fault (word_fault words.left words.right) own)
+IsFormRun finds answer (Check file) run = (own : events.Run WordFault) × IsCheckRun finds file own × (run ≡ with_fault (word_fault file file) own)
 IsFormRun finds answer form run = (own : Run) × IsRunOf finds answer form own × (run ≡ with_fault Statement own)
 
 -- the run of words of this form; where they are of none, it ends at once

@@ -5,10 +5,11 @@ ghost use Rattle.rs_events.specs.Events.{finds_in};
 ghost use Rattle.rs_events.specs.Running.{Runs};
 ghost use Rattle.rs_run.specs.Faults.{run_faults};
 ghost use Rattle.rs_run.specs.Outcome.{FormRunsTo, RunsTo};
-ghost use Rattle.rs_run.specs.Parts.CommandLine.{form_of_command_line};
+ghost use Rattle.rs_run.specs.Parts.CommandLine.{HasCertCount, form_of_command_line};
 ghost use Rattle.rs_run.specs.Running.{IsFormRun, IsRun};
 ghost use Rattle.rs_run.specs.Words.{RunGenerated, RunScript, form_of};
 
+use crate::certificates::{cert, check};
 use crate::fault::RunFault;
 use crate::feed::feed;
 use crate::generated::run_generated;
@@ -126,6 +127,7 @@ fn obey<F: Files, S: Scorer, O: Sink>(
     scorer: &mut S,
     out: &mut O,
 ) -> Result<(), RunFault>
+    requires { HasCertCount (form_of_command_line command.entry) }
     ensures does { (beside : Environment) → Runs run_faults
         (IsFormRun (finds_in (F.state files.old).told) (S.state scorer.old).answer (form_of_command_line command.entry)) result
         (record beside { files = F.state files.old; scorer = S.state scorer.old; out = O.state out.old })
@@ -158,5 +160,9 @@ fn obey<F: Files, S: Scorer, O: Sink>(
             run_by_scan(alloc, script, &mut Readers::new(), files, scorer, out)
         }
         CommandLine::Feed(words) => feed(alloc, words.left, words.right, words.count, files, out),
+        CommandLine::Certify(words) => {
+            cert(alloc, words.left, words.right, words.count, files, out)
+        }
+        CommandLine::Check(file) => check(alloc, file, files, out),
     }
 }

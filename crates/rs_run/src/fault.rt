@@ -11,7 +11,7 @@ use std::alloc::Global;
 
 /// The line of words that are of no form. It grows with the words, so it stands above all that one word does.
 const USAGE: &str =
-    "usage: ranksql top FILE COLUMN MAX K, run SCRIPT SEED, plain SCRIPT, gen NUMBER ROWS, ta SCRIPT, feed LEFT RIGHT K\n";
+    "usage: ranksql top FILE COLUMN MAX K, run SCRIPT SEED, plain SCRIPT, gen NUMBER ROWS, ta SCRIPT, feed LEFT RIGHT K, cert LEFT RIGHT K, check FILE\n";
 
 /// A word of the command line whose scripts may have some statements alone.
 #[derive(Clone, Copy, Debug, PartialEq, Eq)]
@@ -45,6 +45,15 @@ pub enum RunFault {
         row: u32,
         before: u32,
         got: u32,
+    },
+    /// More rows of the feed of this name were drawn than a certificate takes.
+    CertTooLong {
+        name: Text,
+    },
+    /// The records of the file of this name are no certificate; this record, counted from 1, is the first that no certificate has there.
+    CertForm {
+        name: Text,
+        place: u32,
     },
     /// A fault of `top` or of a script.
     Statement(Fault),
@@ -93,6 +102,8 @@ impl RunFault {
             RunFault::Usage => Status::Usage,
             RunFault::NotEligible { .. } => Status::Script,
             RunFault::Order { .. } => Status::Table,
+            RunFault::CertTooLong { .. } => Status::Table,
+            RunFault::CertForm { .. } => Status::Table,
             RunFault::Statement(why) => statement_status(why),
         }
     }
@@ -113,6 +124,8 @@ impl RunFault {
                 before,
                 got,
             } => order_line(alloc, name, *row, *before, *got),
+            RunFault::CertTooLong { name } => too_long_line(alloc, name),
+            RunFault::CertForm { name, place } => form_line(alloc, name, *place),
             RunFault::Statement(why) => why.line(alloc),
         }
     }
@@ -124,6 +137,22 @@ fn order_line(alloc: Global, name: &Text, row: u32, before: u32, got: u32) -> Re
 {
     let name = name.as_str();
     Ok(format!(in alloc; "table: {name}: OutOfOrder row {row} before {before} got {got}\n")?)
+}
+
+/// The line of a feed of which too many rows were drawn for a certificate.
+fn too_long_line(alloc: Global, name: &Text) -> Result<String, Memory>
+    ensures { IfOk result (λ line. string_bytes line ≡ run_fault_line (RunFault.CertTooLong name.now)) }
+{
+    let name = name.as_str();
+    Ok(format!(in alloc; "table: {name}: CertTooLong\n")?)
+}
+
+/// The line of a file that is no certificate.
+fn form_line(alloc: Global, name: &Text, place: u32) -> Result<String, Memory>
+    ensures { IfOk result (λ line. string_bytes line ≡ run_fault_line (RunFault.CertForm name.now place)) }
+{
+    let name = name.as_str();
+    Ok(format!(in alloc; "table: {name}: CertForm record {place}\n")?)
 }
 
 /// The status of a run that ends with this fault of `top` or of a script.

@@ -40,7 +40,7 @@ pub fn feed<F: Files, O: Sink>(
 }
 
 /// The fault of a word over feeds, told by the names of its files; or there is no memory for that.
-fn word_fault(alloc: Global, left: &Text, right: &Text, why: WordFault) -> RunFault
+pub(crate) fn word_fault(alloc: Global, left: &Text, right: &Text, why: WordFault) -> RunFault
     ensures { (result ≡ told.word_fault left.now right.now why) ⊎ (result ≡ RunFault.Statement Fault.Memory) }
 {
     match named_fault(alloc, left, right, why) {
@@ -77,6 +77,14 @@ fn named_fault(alloc: Global, left: &Text, right: &Text, why: WordFault) -> Resu
                 before,
                 got,
             })
+        }
+        WordFault::CertTooLong { file } => {
+            let name = file_name(left, right, file)?;
+            Ok(RunFault::CertTooLong { name })
+        }
+        WordFault::CertForm { place } => {
+            let name = left.copy()?;
+            Ok(RunFault::CertForm { name, place })
         }
         WordFault::Memory => Ok(RunFault::Statement(Fault::Memory)),
     }

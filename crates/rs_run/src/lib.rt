@@ -4,6 +4,7 @@
 //! scorers and outputs.
 #![tactic(auto)]
 
+mod certificates;
 mod command;
 mod fault;
 mod feed;

@@ -1,5 +1,5 @@
 ghost use Rattle.std.specs.Prelude.{◌≡◌, option_map};
-ghost use Rattle.rs_run.specs.Words.{feed_form, form_of, gen_form, number_word, plain_form, run_form, ta_form, top_form};
+ghost use Rattle.rs_run.specs.Words.{cert_form, check_form, feed_form, form_of, gen_form, number_word, plain_form, run_form, ta_form, top_form};
 ghost use Rattle.rs_run.specs.Parts.CommandLine.{form_of_command_line};
 
 use rs_statement::{Evaluating, Sampling};
@@ -8,7 +8,7 @@ use rs_value::{Text, decimal_of};
 /// The greatest MAX of `top`.
 const MOST_SCORE: u64 = 4_294_967_295;
 
-/// The greatest K of `top` and `feed`.
+/// The greatest K of `top`, `feed` and `cert`.
 const MOST_PRINTED: u64 = 1_000_000;
 
 /// The greatest NUMBER of `gen`.
@@ -26,7 +26,7 @@ pub struct TopCommand<'a> {
     pub count: u32,
 }
 
-/// What `feed LEFT RIGHT K` asks for.
+/// What `feed LEFT RIGHT K` and `cert LEFT RIGHT K` ask for.
 #[derive(Clone, Copy)]
 pub struct FeedCommand<'a> {
     pub left: &'a Text,
@@ -45,6 +45,10 @@ pub enum CommandLine<'a> {
     /// The statements of the script of this name, with its queries answered by threshold scans.
     Threshold(&'a Text),
     Feed(FeedCommand<'a>),
+    /// The certificate of the first pairs of two ranked feeds.
+    Certify(FeedCommand<'a>),
+    /// What a check says of the certificate in the file of this name.
+    Check(&'a Text),
 }
 
 /// What the words of a command line ask for, without the program's name, where they are of a form. The forms are tried in order.
@@ -66,7 +70,13 @@ pub fn command_line_of(words: &[Text]) -> Option<CommandLine<'_>>
     if let Some(command) = ta_command(words) {
         return Some(command);
     }
-    feed_command(words)
+    if let Some(command) = feed_command(words) {
+        return Some(command);
+    }
+    if let Some(command) = cert_command(words) {
+        return Some(command);
+    }
+    check_command(words)
 }
 
 /// The command of the words `top FILE COLUMN MAX K`.
@@ -161,6 +171,37 @@ fn feed_command(words: &[Text]) -> Option<CommandLine<'_>>
         right,
         count: count as u32,
     }))
+}
+
+/// The command of the words `cert LEFT RIGHT K`.
+fn cert_command(words: &[Text]) -> Option<CommandLine<'_>>
+    ensures { option_map form_of_command_line result ≡ cert_form words.now }
+{
+    let [word, left, right, count] = words else {
+        return None;
+    };
+    if word.as_str() != "cert" {
+        return None;
+    }
+    let count = number_word(count, 0, MOST_PRINTED)?;
+    Some(CommandLine::Certify(FeedCommand {
+        left,
+        right,
+        count: count as u32,
+    }))
+}
+
+/// The command of the words `check FILE`.
+fn check_command(words: &[Text]) -> Option<CommandLine<'_>>
+    ensures { option_map form_of_command_line result ≡ check_form words.now }
+{
+    let [word, file] = words else {
+        return None;
+    };
+    if word.as_str() != "check" {
+        return None;
+    }
+    Some(CommandLine::Check(file))
 }
 
 /// A number of the command line: 1 to 20 decimal digits, that write a number from `least` to `most`.

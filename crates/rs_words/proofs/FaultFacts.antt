@@ -1,5 +1,5 @@
--- The faults that the definition of the word `feed` ends with: never that a put failed.
-use Rattle.std.proofs.Common.{ℕ, zero, suc, List, Option, Some, None, Result, Ok, Err, sym, subst}
+-- The faults that the definitions of the words end with: never that a put failed.
+use Rattle.std.proofs.Common.{ℕ, zero, suc, nat_lt, Bool, true, false, cond, length, List, Option, Some, None, Result, Ok, Err, sym, subst}
 use Rattle.rs_value.specs.Results.{◌>>=◌}
 use Rattle.rs_outside.specs.declared.files.FetchFault.{FetchFault}
 use Rattle.rs_outside.specs.declared.files.FetchFault.TheVariants as fetch
@@ -18,10 +18,16 @@ use Rattle.rs_events.specs.Events.{Finds}
 use Rattle.rs_events.specs.Fetching.{fetched_bytes}
 use Rattle.rs_events.specs.Run.{Run}
 use Rattle.rs_words.specs.declared.fault.WordFault.{WordFault}
-use Rattle.rs_words.specs.declared.fault.WordFault.TheVariants.{Memory, Order, Range, Read, Table, Write}
+use Rattle.rs_words.specs.declared.fault.WordFault.TheVariants.{CertForm, CertTooLong, Memory, Order, Range, Read, Table, Write}
 use Rattle.rs_words.specs.Faults.{or_range, or_read, or_table}
 use Rattle.rs_words.specs.FeedFiles.{feed_columns, feed_file, file_limit, rows_in}
-use Rattle.rs_words.specs.Feeding.{FeedWords, IsFeedRun, LeftRun, call_run, run_behind, right_run}
+use Rattle.rs_cert.specs.declared.cert.Cert.{Cert}
+use Rattle.rs_cert.specs.Records.{most_rows}
+use Rattle.rs_cert.specs.Written.{written}
+use Rattle.rs_words.specs.Certifying.{IsCertRun, bytes_of, bytes_run, certified, certified_after, certified_behind, few_rows, joined_bytes, joined_cert_run}
+use Rattle.rs_words.specs.Checking.{IsCheckRun, IsCheckedRun, IsReadRun, judged, strange}
+use Rattle.rs_words.specs.Feeding.{IsFeedRun, call_run, pairs_run, run_behind}
+use Rattle.rs_words.specs.TwoFeeds.{FeedWords, IsTwoFeedsRun, JoinRun, LeftRun, right_run}
 use Rattle.rs_words.specs.Joining.{join_fault}
 
 abbrev pub IsNoPut : WordFault → Type 0
@@ -30,6 +36,8 @@ IsNoPut Write = ⊥
 IsNoPut (Table file why) = Unit {0}
 IsNoPut (Range file why) = Unit {0}
 IsNoPut (Order side row before got) = Unit {0}
+IsNoPut (CertTooLong file) = Unit {0}
+IsNoPut (CertForm place) = Unit {0}
 IsNoPut Memory = Unit {0}
 
 abbrev pub EndsByNoPut : Option WordFault → Type 0
@@ -91,16 +99,67 @@ unfolding run_behind
 of-pairs lefts rights n zero = tt
 of-pairs lefts rights n (suc more) = of-call lefts rights n (next_answer lefts rights n) (run_behind lefts rights (suc n) more) (of-pairs lefts rights (suc n) more)
 
--- of the whole run
-of-right : (lefts : List FeedRow) (count : ℕ) (rights : Result (List FeedRow) WordFault) → GivesNoPut rights → EndsByNoPut (right_run lefts count rights).fault
-of-right lefts count (Err fault) own = own
-of-right lefts count (Ok rights) own = of-pairs lefts rights 0 count
+-- of the whole run of a word over two feeds
+module _ (joined : JoinRun) (finds : Finds) (own_of : (lefts rights : List FeedRow) (count : ℕ) → EndsByNoPut (joined lefts rights count).fault) where
+  of-right : (lefts : List FeedRow) (count : ℕ) (rights : Result (List FeedRow) WordFault) → GivesNoPut rights → EndsByNoPut (right_run joined lefts count rights).fault
+  of-right lefts count (Err fault) own = own
+  of-right lefts count (Ok rights) own = own_of lefts rights count
 
-of-left : (finds : Finds) (words : FeedWords) (lefts : Result (List FeedRow) WordFault) (more : Run WordFault) → GivesNoPut lefts → LeftRun finds words lefts more → EndsByNoPut more.fault
-of-left finds words (Err fault) more own is = subst (λ (run : Run WordFault). EndsByNoPut run.fault) (sym is) own
-of-left finds words (Ok lefts) more own is =
-    subst (λ (run : Run WordFault). EndsByNoPut run.fault) (sym is.2) (of-right lefts words.count (feed_file 2 is.0) (of-file 2 is.0))
+  of-left : (words : FeedWords) (lefts : Result (List FeedRow) WordFault) (more : Run WordFault) → GivesNoPut lefts → LeftRun joined finds words lefts more → EndsByNoPut more.fault
+  of-left words (Err fault) more own is = subst (λ (run : Run WordFault). EndsByNoPut run.fault) (sym is) own
+  of-left words (Ok lefts) more own is =
+      subst (λ (run : Run WordFault). EndsByNoPut run.fault) (sym is.2) (of-right lefts words.count (feed_file 2 is.0) (of-file 2 is.0))
+
+  of-run : (words : FeedWords) (run : Run WordFault) → IsTwoFeedsRun joined finds words run → EndsByNoPut run.fault
+  of-run words run is =
+      subst (λ (run : Run WordFault). EndsByNoPut run.fault) (sym is.4) (of-left words (feed_file 1 is.0) is.2 (of-file 1 is.0) is.3)
 
 pub feed-no_put : (finds : Finds) (words : FeedWords) (run : Run WordFault) → IsFeedRun finds words run → EndsByNoPut run.fault
-feed-no_put finds words run is =
-    subst (λ (run : Run WordFault). EndsByNoPut run.fault) (sym is.4) (of-left finds words (feed_file 1 is.0) is.2 (of-file 1 is.0) is.3)
+feed-no_put finds words run is = of-run pairs_run finds (λ lefts rights count. of-pairs lefts rights 0 count) words run is
+
+-- of `cert`
+of-certified : (lefts rights : List FeedRow) (count n : ℕ) (answer : Result (Option FeedPair) JoinFault) (more : Result Cert WordFault) → GivesNoPut more → GivesNoPut (certified_after lefts rights count n answer more)
+of-certified lefts rights count n (Ok (Some pair)) more own = own
+of-certified lefts rights count n (Ok None) more own = tt
+of-certified lefts rights count n (Err why) more own = of-join why
+
+of-behind : (lefts rights : List FeedRow) (count n more : ℕ) → GivesNoPut (certified_behind lefts rights count n more)
+unfolding certified_behind
+of-behind lefts rights count n zero = tt
+of-behind lefts rights count n (suc more) =
+    of-certified lefts rights count n (next_answer lefts rights n) (certified_behind lefts rights count (suc n) more) (of-behind lefts rights count (suc n) more)
+
+of-few : (side rows : ℕ) → GivesNoPut (few_rows side rows)
+of-few side rows = go (nat_lt most_rows rows) where
+  go : (many : Bool) → GivesNoPut {A = Unit {0}} (cond many (Err (CertTooLong side)) (Ok tt))
+  go true = tt
+  go false = tt
+
+of-bytes : (cert : Cert) → GivesNoPut (bytes_of cert)
+of-bytes cert =
+    of-both (few_rows 1 (length cert.left.rows)) (λ left. few_rows 2 (length cert.right.rows) >>= λ right. Ok (written cert)) (of-few 1 (length cert.left.rows))
+    (λ left. of-both (few_rows 2 (length cert.right.rows)) (λ right. Ok (written cert)) (of-few 2 (length cert.right.rows)) (λ right. tt))
+
+of-bytes_run : (bytes : Result (List ℕ) WordFault) → GivesNoPut bytes → EndsByNoPut (bytes_run bytes).fault
+of-bytes_run (Ok bytes) own = tt
+of-bytes_run (Err fault) own = own
+
+pub cert-no_put : (finds : Finds) (words : FeedWords) (run : Run WordFault) → IsCertRun finds words run → EndsByNoPut run.fault
+cert-no_put finds words run is =
+    of-run joined_cert_run finds
+    (λ lefts rights count. of-bytes_run (joined_bytes lefts rights count) (of-both (certified lefts rights count) bytes_of (of-behind lefts rights count 0 count) of-bytes))
+    words run is
+
+-- of `check`
+of-checked : (bytes : List ℕ) (run : Run WordFault) → IsCheckedRun bytes run → EndsByNoPut run.fault
+of-checked bytes _ (strange place form) = tt
+of-checked bytes _ (judged cert verdict are is) = tt
+
+of-read_run : (bytes : Result (List ℕ) WordFault) (run : Run WordFault) → GivesNoPut bytes → IsReadRun bytes run → EndsByNoPut run.fault
+of-read_run (Err fault) run own is = subst (λ (run : Run WordFault). EndsByNoPut run.fault) (sym is) own
+of-read_run (Ok bytes) run own is = of-checked bytes run is
+
+pub check-no_put : (finds : Finds) (file : List ℕ) (run : Run WordFault) → IsCheckRun finds file run → EndsByNoPut run.fault
+check-no_put finds file run is =
+    subst (λ (run : Run WordFault). EndsByNoPut run.fault) (sym is.4)
+    (of-read_run (or_read 1 (fetched_bytes file_limit is.0)) is.2 (of-read 1 (fetched_bytes file_limit is.0)) is.3)

@@ -1,4 +1,4 @@
--- The run of the word `feed`, put together from what its parts did.
+-- The run of a word over two feeds, put together from what its parts did.
 use Rattle.std.proofs.Common.{ℕ, zero, suc, ◌≡◌, ◌∙◌, ◌⊎◌, List, [], ◌∷◌, Option, Some, None, Result, Ok, Err, refl, sym, ap, subst, inl, inr}
 use Rattle.std.specs.Prelude.{option_map}
 use Rattle.rs_value.specs.Outside.{Outside}
@@ -24,7 +24,9 @@ use Rattle.rs_words.specs.declared.fault.WordFault.{WordFault}
 use Rattle.rs_words.specs.declared.fault.WordFault.TheVariants.{Memory, Read}
 use Rattle.rs_words.specs.Faults.{feed_faults, put_faults}
 use Rattle.rs_words.specs.FeedFiles.{IsFeedFile, feed_file}
-use Rattle.rs_words.specs.Feeding.{FeedWords, IsFeedRun, LeftRun, call_run, run_behind, pairs_run, right_run}
+use Rattle.rs_words.specs.Certifying.{IsCertRun, bytes_run, joined_bytes, joined_cert_run}
+use Rattle.rs_words.specs.Feeding.{IsFeedRun, call_run, run_behind, pairs_run}
+use Rattle.rs_words.specs.TwoFeeds.{FeedWords, IsTwoFeedsRun, JoinRun, LeftRun, right_run}
 
 -- a run of puts alone has the same faults where fetches are told too
 module _ (left right : List ℕ) where
@@ -46,7 +48,7 @@ module _ (left right : List ℕ) where
   }
 
 -- a fault of a fetch that is told more loosely
-pub fetches-loosely : {A : Type 0} {Tells Others : WordFault → Type 0} (file : List ℕ) (result : Result A WordFault) (gives : Option (List ℕ) → Result A WordFault → Type 0) (old new : Outside FilesTold)
+unfoldable pub fetches-loosely : {A : Type 0} {Tells Others : WordFault → Type 0} (file : List ℕ) (result : Result A WordFault) (gives : Option (List ℕ) → Result A WordFault → Type 0) (old new : Outside FilesTold)
     → ((why : WordFault) → Tells why → Others why) → FetchesFile Memory Tells file result gives old new → FetchesFile Memory Others file result gives old new
 fetches-loosely {A} {Tells} {Others} file result gives old new loosely f = record { there = f.there; is_told = f.is_told; does = go f.does; keeps = f.keeps } where
   go : (NotFetched {A = A} Memory result old new ⊎ FetchFails {A = A} Memory Tells file result old new) ⊎ Fetched {A = A} Memory file (gives f.there) result old new
@@ -85,26 +87,26 @@ bound-new (Ok rows) feed e = let same : feed ≡ new_feed rows = cc in same ∙ 
 bound-new (Err own) feed e = absurd cc
 
 -- the run behind the fetch of the left file
-left-run : (finds : Finds) (words : FeedWords) (lefts : Result (List FeedRow) WordFault) → ((there : Option (List ℕ)) × finds words.right there) → (more : Run WordFault) × LeftRun finds words lefts more
-left-run finds words (Err fault) some = (fails fault, refl)
-left-run finds words (Ok lefts) some = (behind (Fetch words.right ∷ []) (right_run lefts words.count (feed_file 2 some.0)), (some.0, some.1, refl))
+left-run : (joined : JoinRun) (finds : Finds) (words : FeedWords) (lefts : Result (List FeedRow) WordFault) → ((there : Option (List ℕ)) × finds words.right there) → (more : Run WordFault) × LeftRun joined finds words lefts more
+left-run joined finds words (Err fault) some = (fails fault, refl)
+left-run joined finds words (Ok lefts) some = (behind (Fetch words.right ∷ []) (right_run joined lefts words.count (feed_file 2 some.0)), (some.0, some.1, refl))
 
-left-run-err : (finds : Finds) (words : FeedWords) (lefts : Result (List FeedRow) WordFault) (more : Run WordFault) (fault : WordFault) → LeftRun finds words lefts more → lefts ≡ Err fault → more ≡ fails fault
-left-run-err finds words (Ok lefts) more fault is e = absurd cc
-left-run-err finds words (Err own) more fault is e = is ∙ ap fails (let same : own ≡ fault = cc in same)
+left-run-err : (joined : JoinRun) (finds : Finds) (words : FeedWords) (lefts : Result (List FeedRow) WordFault) (more : Run WordFault) (fault : WordFault) → LeftRun joined finds words lefts more → lefts ≡ Err fault → more ≡ fails fault
+left-run-err joined finds words (Ok lefts) more fault is e = absurd cc
+left-run-err joined finds words (Err own) more fault is e = is ∙ ap fails (let same : own ≡ fault = cc in same)
 
-module _ (words : FeedWords) (environment : Environment) (lefts : Outside FilesTold) where
+module _ (joined : JoinRun) (words : FeedWords) (environment : Environment) (lefts : Outside FilesTold) where
   -- the left file is no feed
   pub Ran-no_left : (fault : WordFault) → FetchesFile {A = TableFeedState} Memory (λ why. why ≡ Read 1 fetch.Failed) words.left (Err fault) (IsFeedFile 1) environment.files lefts
-      → Runs (feed_faults words.left words.right) (IsFeedRun (finds_in environment.files.told) words) (Err fault) environment (record environment { files = lefts })
+      → Runs (feed_faults words.left words.right) (IsTwoFeedsRun joined (finds_in environment.files.told) words) (Err fault) environment (record environment { files = lefts })
   unfolding fetches-loosely
   Ran-no_left fault f =
-      let more = left-run (finds_in environment.files.told) words (feed_file 1 f.there) (finds-some environment.files.told words.right) in record {
+      let more = left-run joined (finds_in environment.files.told) words (feed_file 1 f.there) (finds-some environment.files.told words.right) in record {
         run = behind (Fetch words.left ∷ []) more.0;
         is = (f.there, f.is_told, more.0, more.1, refl);
         ran = Ran-unfetched environment lefts words.left fault (IsFeedFile 1) (behind (Fetch words.left ∷ []) more.0) more.0.events
             (fetches-loosely {A = TableFeedState} words.left (Err fault) (IsFeedFile 1) environment.files lefts (λ why is. inl (refl, is)) f) refl
-            (λ given. ap (behind (Fetch words.left ∷ [])) (left-run-err (finds_in environment.files.told) words (feed_file 1 f.there) more.0 fault more.1 (bound-err (feed_file 1 f.there) fault given)));
+            (λ given. ap (behind (Fetch words.left ∷ [])) (left-run-err joined (finds_in environment.files.told) words (feed_file 1 f.there) more.0 fault more.1 (bound-err (feed_file 1 f.there) fault given)));
       }
 
   module _ (left : TableFeedState) (rights : Outside FilesTold) (f : FetchesFile {A = TableFeedState} Memory (λ why. why ≡ Read 1 fetch.Failed) words.left (Ok left) (IsFeedFile 1) environment.files lefts) where
@@ -113,65 +115,79 @@ module _ (words : FeedWords) (environment : Environment) (lefts : Outside FilesT
 
     -- the run of which the left file is a feed
     is-run : (there : Option (List ℕ)) → finds_in lefts.told words.right there
-        → IsFeedRun (finds_in environment.files.told) words (behind (Fetch words.left ∷ []) (behind (Fetch words.right ∷ []) (right_run left.rows words.count (feed_file 2 there))))
+        → IsTwoFeedsRun joined (finds_in environment.files.told) words (behind (Fetch words.left ∷ []) (behind (Fetch words.right ∷ []) (right_run joined left.rows words.count (feed_file 2 there))))
     is-run there found =
         let read = fetched-ok environment lefts words.left left (IsFeedFile 1) f in (
           f.there,
           f.is_told,
-          behind (Fetch words.right ∷ []) (right_run left.rows words.count (feed_file 2 there)),
-          subst (λ rows. LeftRun (finds_in environment.files.told) words rows (behind (Fetch words.right ∷ []) (right_run left.rows words.count (feed_file 2 there)))) (sym (bound-ok (feed_file 1 f.there) left read.given))
+          behind (Fetch words.right ∷ []) (right_run joined left.rows words.count (feed_file 2 there)),
+          subst (λ rows. LeftRun joined (finds_in environment.files.told) words rows (behind (Fetch words.right ∷ []) (right_run joined left.rows words.count (feed_file 2 there)))) (sym (bound-ok (feed_file 1 f.there) left read.given))
               (there, finds-after environment.files.told lefts.told (words.left ∷ []) read.has.all.fetched words.right there found, refl),
           refl,
         )
 
     -- the right file is no feed
     pub Ran-no_right : (fault : WordFault) → FetchesFile {A = TableFeedState} Memory (λ why. why ≡ Read 2 fetch.Failed) words.right (Err fault) (IsFeedFile 2) lefts rights
-        → Runs (feed_faults words.left words.right) (IsFeedRun (finds_in environment.files.told) words) (Err fault) environment (record environment { files = rights })
+        → Runs (feed_faults words.left words.right) (IsTwoFeedsRun joined (finds_in environment.files.told) words) (Err fault) environment (record environment { files = rights })
     unfolding middle fetches-loosely
     Ran-no_right fault s =
         let read = fetched-ok environment lefts words.left left (IsFeedFile 1) f in record {
-          run = behind (Fetch words.left ∷ []) (behind (Fetch words.right ∷ []) (right_run left.rows words.count (feed_file 2 s.there)));
+          run = behind (Fetch words.left ∷ []) (behind (Fetch words.right ∷ []) (right_run joined left.rows words.count (feed_file 2 s.there)));
           is = is-run s.there s.is_told;
-          ran = Ran-behind (Fetch words.left ∷ []) (behind (Fetch words.right ∷ []) (right_run left.rows words.count (feed_file 2 s.there))) (Err fault) environment middle (record environment { files = rights }) read.has
-              (Ran-unfetched middle rights words.right fault (IsFeedFile 2) (behind (Fetch words.right ∷ []) (right_run left.rows words.count (feed_file 2 s.there))) (right_run left.rows words.count (feed_file 2 s.there)).events
+          ran = Ran-behind (Fetch words.left ∷ []) (behind (Fetch words.right ∷ []) (right_run joined left.rows words.count (feed_file 2 s.there))) (Err fault) environment middle (record environment { files = rights }) read.has
+              (Ran-unfetched middle rights words.right fault (IsFeedFile 2) (behind (Fetch words.right ∷ []) (right_run joined left.rows words.count (feed_file 2 s.there))) (right_run joined left.rows words.count (feed_file 2 s.there)).events
               (fetches-loosely {A = TableFeedState} words.right (Err fault) (IsFeedFile 2) lefts rights (λ why is. inr (refl, is)) s) refl
-              (λ given. ap (λ rows. behind (Fetch words.right ∷ []) (right_run left.rows words.count rows)) (bound-err (feed_file 2 s.there) fault given)));
+              (λ given. ap (λ rows. behind (Fetch words.right ∷ []) (right_run joined left.rows words.count rows)) (bound-err (feed_file 2 s.there) fault given)));
         }
 
     -- both are
     pub Ran-joined : (right : TableFeedState) (result : Result (Unit {0}) WordFault) (new : Environment) → FetchesFile {A = TableFeedState} Memory (λ why. why ≡ Read 2 fetch.Failed) words.right (Ok right) (IsFeedFile 2) lefts rights
-        → Ran put_faults (pairs_run left.rows right.rows words.count) result (record environment { files = rights }) new
-        → Runs (feed_faults words.left words.right) (IsFeedRun (finds_in environment.files.told) words) result environment new
+        → Ran put_faults (joined left.rows right.rows words.count) result (record environment { files = rights }) new
+        → Runs (feed_faults words.left words.right) (IsTwoFeedsRun joined (finds_in environment.files.told) words) result environment new
     unfolding middle
     Ran-joined right result new s ran =
         let read = fetched-ok environment lefts words.left left (IsFeedFile 1) f in
         let other = fetched-ok middle rights words.right right (IsFeedFile 2) s in
-        let rest = subst (λ rows. Ran (feed_faults words.left words.right) (right_run left.rows words.count rows) result (record environment { files = rights }) new) (sym (bound-ok (feed_file 2 s.there) right other.given))
-        (Ran-puts words.left words.right (pairs_run left.rows right.rows words.count) result (record environment { files = rights }) new ran) in record {
-          run = behind (Fetch words.left ∷ []) (behind (Fetch words.right ∷ []) (right_run left.rows words.count (feed_file 2 s.there)));
+        let rest = subst (λ rows. Ran (feed_faults words.left words.right) (right_run joined left.rows words.count rows) result (record environment { files = rights }) new) (sym (bound-ok (feed_file 2 s.there) right other.given))
+        (Ran-puts words.left words.right (joined left.rows right.rows words.count) result (record environment { files = rights }) new ran) in record {
+          run = behind (Fetch words.left ∷ []) (behind (Fetch words.right ∷ []) (right_run joined left.rows words.count (feed_file 2 s.there)));
           is = is-run s.there s.is_told;
-          ran = Ran-behind (Fetch words.left ∷ []) (behind (Fetch words.right ∷ []) (right_run left.rows words.count (feed_file 2 s.there))) result environment middle new read.has
-              (Ran-behind (Fetch words.right ∷ []) (right_run left.rows words.count (feed_file 2 s.there)) result middle (record environment { files = rights }) new other.has rest);
+          ran = Ran-behind (Fetch words.left ∷ []) (behind (Fetch words.right ∷ []) (right_run joined left.rows words.count (feed_file 2 s.there))) result environment middle new read.has
+              (Ran-behind (Fetch words.right ∷ []) (right_run joined left.rows words.count (feed_file 2 s.there)) result middle (record environment { files = rights }) new other.has rest);
         }
 
 -- the word has a run, and one alone where a name has one file
-pub some-feed_run : (finds : Finds) → ((name : List ℕ) → (there : Option (List ℕ)) × finds name there) → (words : FeedWords) → (run : Run WordFault) × IsFeedRun finds words run
-some-feed_run finds has words =
-    let left = has words.left in
-    let more = left-run finds words (feed_file 1 left.0) (has words.right) in
-    (behind (Fetch words.left ∷ []) more.0, (left.0, left.1, more.0, more.1, refl))
+module _ (joined : JoinRun) (finds : Finds) where
+  pub some-words_run : ((name : List ℕ) → (there : Option (List ℕ)) × finds name there) → (words : FeedWords) → (run : Run WordFault) × IsTwoFeedsRun joined finds words run
+  some-words_run has words =
+      let left = has words.left in
+      let more = left-run joined finds words (feed_file 1 left.0) (has words.right) in
+      (behind (Fetch words.left ∷ []) more.0, (left.0, left.1, more.0, more.1, refl))
 
-LeftRun-one : (finds : Finds) → OneFile finds → (words : FeedWords) (lefts : Result (List FeedRow) WordFault) (a b : Run WordFault) → LeftRun finds words lefts a → LeftRun finds words lefts b → a ≡ b
-LeftRun-one finds one words (Err fault) a b p q = p ∙ sym q
-LeftRun-one finds one words (Ok lefts) a b p q =
-    p.2 ∙ ap (λ there. behind (Fetch words.right ∷ []) (right_run lefts words.count (feed_file 2 there))) (one words.right p.0 q.0 p.1 q.1) ∙ sym q.2
+  LeftRun-one : OneFile finds → (words : FeedWords) (lefts : Result (List FeedRow) WordFault) (a b : Run WordFault) → LeftRun joined finds words lefts a → LeftRun joined finds words lefts b → a ≡ b
+  LeftRun-one one words (Err fault) a b p q = p ∙ sym q
+  LeftRun-one one words (Ok lefts) a b p q =
+      p.2 ∙ ap (λ there. behind (Fetch words.right ∷ []) (right_run joined lefts words.count (feed_file 2 there))) (one words.right p.0 q.0 p.1 q.1) ∙ sym q.2
 
-pub IsFeedRun-one : (finds : Finds) → OneFile finds → (words : FeedWords) (a b : Run WordFault) → IsFeedRun finds words a → IsFeedRun finds words b → a ≡ b
-IsFeedRun-one finds one words a b p q =
-    let same = LeftRun-one finds one words (feed_file 1 q.0) p.2 q.2 (subst (λ there. LeftRun finds words (feed_file 1 there) p.2) (one words.left p.0 q.0 p.1 q.1) p.3) q.3 in
-    p.4 ∙ ap (behind (Fetch words.left ∷ [])) same ∙ sym q.4
+  pub one-run : OneFile finds → (words : FeedWords) (a b : Run WordFault) → IsTwoFeedsRun joined finds words a → IsTwoFeedsRun joined finds words b → a ≡ b
+  one-run one words a b p q =
+      let same = LeftRun-one one words (feed_file 1 q.0) p.2 q.2 (subst (λ there. LeftRun joined finds words (feed_file 1 there) p.2) (one words.left p.0 q.0 p.1 q.1) p.3) q.3 in
+      p.4 ∙ ap (behind (Fetch words.left ∷ [])) same ∙ sym q.4
 
--- it calls no scorer
+  -- it calls no scorer where what it does with both feeds calls none
+  module _ (silent : (lefts rights : List FeedRow) (count : ℕ) → calls (joined lefts rights count).events ≡ []) where
+    calls-right : (lefts : List FeedRow) (count : ℕ) (rights : Result (List FeedRow) WordFault) → calls (right_run joined lefts count rights).events ≡ []
+    calls-right lefts count (Err fault) = refl
+    calls-right lefts count (Ok rights) = silent lefts rights count
+
+    calls-left : (words : FeedWords) (lefts : Result (List FeedRow) WordFault) (more : Run WordFault) → LeftRun joined finds words lefts more → calls more.events ≡ []
+    calls-left words (Err fault) more is = ap (λ (run : Run WordFault). calls run.events) is
+    calls-left words (Ok lefts) more is = ap (λ (run : Run WordFault). calls run.events) is.2 ∙ calls-right lefts words.count (feed_file 2 is.0)
+
+    silent-run : (words : FeedWords) (run : Run WordFault) → IsTwoFeedsRun joined finds words run → calls run.events ≡ []
+    silent-run words run is = ap (λ (run : Run WordFault). calls run.events) is.4 ∙ calls-left words (feed_file 1 is.0) is.2 is.3
+
+-- the word `feed` calls none
 calls-call : (lefts rights : List FeedRow) (n : ℕ) (answer : Result (Option FeedPair) JoinFault) (more : Run WordFault) → calls more.events ≡ [] → calls (call_run lefts rights n answer more).events ≡ []
 calls-call lefts rights n (Ok (Some pair)) more e = e
 calls-call lefts rights n (Ok None) more e = refl
@@ -182,13 +198,13 @@ unfolding run_behind
 calls-pairs lefts rights n zero = refl
 calls-pairs lefts rights n (suc more) = calls-call lefts rights n (next_answer lefts rights n) (run_behind lefts rights (suc n) more) (calls-pairs lefts rights (suc n) more)
 
-calls-right : (lefts : List FeedRow) (count : ℕ) (rights : Result (List FeedRow) WordFault) → calls (right_run lefts count rights).events ≡ []
-calls-right lefts count (Err fault) = refl
-calls-right lefts count (Ok rights) = calls-pairs lefts rights 0 count
+pub feed-no_calls : (finds : Finds) (words : FeedWords) (run : Run WordFault) → IsFeedRun finds words run → calls run.events ≡ []
+feed-no_calls finds words run is = silent-run pairs_run finds (λ lefts rights count. calls-pairs lefts rights 0 count) words run is
 
-calls-left : (finds : Finds) (words : FeedWords) (lefts : Result (List FeedRow) WordFault) (more : Run WordFault) → LeftRun finds words lefts more → calls more.events ≡ []
-calls-left finds words (Err fault) more is = ap (λ (run : Run WordFault). calls run.events) is
-calls-left finds words (Ok lefts) more is = ap (λ (run : Run WordFault). calls run.events) is.2 ∙ calls-right lefts words.count (feed_file 2 is.0)
+-- nor does `cert`
+calls-bytes : (bytes : Result (List ℕ) WordFault) → calls (bytes_run bytes).events ≡ []
+calls-bytes (Ok bytes) = refl
+calls-bytes (Err fault) = refl
 
-pub no-calls : (finds : Finds) (words : FeedWords) (run : Run WordFault) → IsFeedRun finds words run → calls run.events ≡ []
-no-calls finds words run is = ap (λ (run : Run WordFault). calls run.events) is.4 ∙ calls-left finds words (feed_file 1 is.0) is.2 is.3
+pub cert-no_calls : (finds : Finds) (words : FeedWords) (run : Run WordFault) → IsCertRun finds words run → calls run.events ≡ []
+cert-no_calls finds words run is = silent-run joined_cert_run finds (λ lefts rights count. calls-bytes (joined_bytes lefts rights count)) words run is

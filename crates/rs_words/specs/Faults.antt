@@ -28,6 +28,15 @@ feed_faults left right = record {
   IsFailedFetch = λ (name : List ℕ) (fault : WordFault). ((name ≡ left) × (fault ≡ Read 1 fetch.Failed)) ⊎ ((name ≡ right) × (fault ≡ Read 2 fetch.Failed));
 }
 
+-- the same with the fetch of one file
+abbrev pub file_faults : List ℕ → HaltFaults WordFault
+file_faults file = record {
+  memory = Memory;
+  write = Write;
+  failed_call = λ (call : Call). Memory;
+  IsFailedFetch = λ (name : List ℕ) (fault : WordFault). (name ≡ file) × (fault ≡ Read 1 fetch.Failed);
+}
+
 -- why the file of this number is no feed
 abbrev pub read_fault : ℕ → FetchFault → WordFault
 read_fault file fetch.Memory = Memory

@@ -8,20 +8,14 @@ use Rattle.rs_feed_join.specs.Cuts.{cut}
 use Rattle.rs_feed_join.specs.Ranked.{asks_of_rows}
 use Rattle.rs_order.specs.Schedule.{Left, Right, SideAsk, asked}
 use Rattle.rs_events.specs.Environment.{Environment}
-use Rattle.rs_events.specs.Events.{Fetch, Finds, Put}
+use Rattle.rs_events.specs.Events.{Finds, Put}
 use Rattle.rs_events.specs.Run.{Run, behind, fails, lines_run}
 use Rattle.rs_events.specs.Running.{HasDone, Ran}
 use Rattle.rs_words.specs.declared.fault.WordFault.{WordFault}
 use Rattle.rs_words.specs.Faults.{put_faults}
-use Rattle.rs_words.specs.FeedFiles.{feed_file}
 use Rattle.rs_words.specs.Joining.{join_fault}
 use Rattle.rs_words.specs.Lines.{draws_line, pair_line}
-
--- what `feed LEFT RIGHT K` asks for
-pub record FeedWords : Type 0 where
-  pub left : List ℕ
-  pub right : List ℕ
-  pub count : ℕ
+use Rattle.rs_words.specs.TwoFeeds.{FeedWords, IsTwoFeedsRun}
 
 -- the line that tells how often each side was asked
 abbrev pub draws_run : List SideAsk → Run WordFault
@@ -42,21 +36,9 @@ run_behind lefts rights n (suc more) = call_run lefts rights n (next_answer left
 abbrev pub pairs_run : List FeedRow → List FeedRow → ℕ → Run WordFault
 pairs_run lefts rights count = run_behind lefts rights 0 count
 
--- the same, where the right file may be no feed
-abbrev pub right_run : List FeedRow → ℕ → Result (List FeedRow) WordFault → Run WordFault
-right_run lefts count (Err fault) = fails fault
-right_run lefts count (Ok rights) = pairs_run lefts rights count
-
--- the run behind the fetch of the left file: the right one is fetched only where the left one is a feed
-abbrev pub LeftRun : Finds → FeedWords → Result (List FeedRow) WordFault → Run WordFault → Type 0
-LeftRun finds words (Err fault) run = run ≡ fails fault
-LeftRun finds words (Ok lefts) run =
-    (there : Option (List ℕ)) × finds words.right there × (run ≡ behind (Fetch words.right ∷ []) (right_run lefts words.count (feed_file 2 there)))
-
 -- the run of the word
 abbrev pub IsFeedRun : Finds → FeedWords → Run WordFault → Type 0
-IsFeedRun finds words run =
-    (there : Option (List ℕ)) × finds words.left there × (more : Run WordFault) × LeftRun finds words (feed_file 1 there) more × (run ≡ behind (Fetch words.left ∷ []) more)
+IsFeedRun finds words run = IsTwoFeedsRun pairs_run finds words run
 
 -- what one call of the join did that puts its pair before any later draw
 abbrev pub PutsNext : List FeedRow → List FeedRow → ℕ → Result Bool WordFault → Environment → Environment → Type 0

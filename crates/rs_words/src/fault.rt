@@ -33,6 +33,14 @@ pub enum WordFault {
         before: u32,
         got: u32,
     },
+    /// More rows of a file were drawn than a certificate takes.
+    CertTooLong {
+        file: u8,
+    },
+    /// The records of a file are no certificate; this record, counted from 1, is the first that no certificate has there.
+    CertForm {
+        place: u32,
+    },
     Memory,
 }
 

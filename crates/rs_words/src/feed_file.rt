@@ -33,8 +33,8 @@ pub(crate) fn read_feed<F: Files>(
     feed_in(alloc, file, files.hash_keys(), &bytes)
 }
 
-/// The bytes of a feed's file.
-fn fetch_bytes<F: Files>(
+/// The bytes of a file.
+pub(crate) fn fetch_bytes<F: Files>(
     alloc: Global,
     file: u8,
     name: &Text,

@@ -1,14 +1,18 @@
-//! The words of the command line that work on ranked feeds: what each fetches, puts and refuses.
+//! The words of the command line that work on ranked feeds and on certificates of their joins: what each fetches, puts and refuses.
 //!
 //! Its promise: a word makes exactly the events of its definition, up to a halt; its answer tells that halt; and it draws of a
 //! feed no more than what it has put takes.
 #![tactic(auto)]
 
+mod certifying;
+mod checking;
 mod fault;
 mod feed_file;
 mod feeding;
 mod joining;
 mod lines;
 
+pub use certifying::cert_word;
+pub use checking::check_word;
 pub use fault::WordFault;
 pub use feeding::feed_word;

@@ -1,6 +1,7 @@
 use Rattle.std.proofs.Common.{sym}
 use Rattle.rs_events.specs.Events.{finds_in}
 use Rattle.rs_run.specs.Parts.CommandLine.{form_of_command_line}
+use Rattle.rs_run.proofs.WordFacts.{cert-count}
 use Rattle.rs_run.proofs.RunFacts.{Runs-usage, Runs-words}
 use Rattle.rs_run.proofs.command.answer.Goals as goal
 
@@ -15,3 +16,6 @@ returns-in-Some-clause-does g c = λ beside.
     (record beside { files = g.F.Files.state c.args.files.now; scorer = g.S.Scorer.state c.args.scorer.now; out = g.O.Sink.state c.args.out.now })
     (record beside { files = g.F.Files.state c.obey.new.files; scorer = g.S.Scorer.state c.obey.new.scorer; out = g.O.Sink.state c.obey.new.out })
     (sym c.in-Some.ensures) (c.obey.ensures.does beside)
+
+pub obey-requires-in-Some : goal.obey-requires-in-Some
+obey-requires-in-Some g c = cert-count c.args.words.now (form_of_command_line c.in-Some.command) (sym c.in-Some.ensures)

@@ -1,7 +1,7 @@
-use Rattle.std.proofs.Common.{refl}
+use Rattle.std.proofs.Common.{refl, subst}
 use Rattle.rs_value.proofs.ResultFacts.{given-err}
 use Rattle.rs_events.specs.Events.{finds_in}
-use Rattle.rs_run.specs.Parts.CommandLine.{form_of_command_line}
+use Rattle.rs_run.specs.Parts.CommandLine.{HasCertCount, form_of_command_line}
 use Rattle.rs_run.specs.declared.fault.RunFault.TheVariants.{Statement}
 use Rattle.rs_run.specs.declared.words.CommandLine.TheVariants as command
 use Rattle.rs_run.proofs.RunFacts.{Runs-told_err, Runs-told_ok}
@@ -64,5 +64,20 @@ returns-in-Threshold g c = rw c.in-Threshold.is (record { does = λ beside. c.ru
 pub returns-in-Feed : goal.returns-in-Feed
 returns-in-Feed g c = rw c.in-Feed.is (record {
   does = λ beside. c.feed.ensures (record beside { files = g.F.Files.state c.args.files.now; scorer = g.S.Scorer.state c.args.scorer.now; out = g.O.Sink.state c.args.out.now });
+  unfetched = λ number rows generated. absurd cc;
+})
+
+pub cert-requires-in-Certify : goal.cert-requires-in-Certify
+cert-requires-in-Certify g c = subst (λ command. HasCertCount (form_of_command_line command)) c.in-Certify.is c.requires
+
+pub returns-in-Certify : goal.returns-in-Certify
+returns-in-Certify g c = rw c.in-Certify.is (record {
+  does = λ beside. c.cert.ensures (record beside { files = g.F.Files.state c.args.files.now; scorer = g.S.Scorer.state c.args.scorer.now; out = g.O.Sink.state c.args.out.now });
+  unfetched = λ number rows generated. absurd cc;
+})
+
+pub returns-in-Check : goal.returns-in-Check
+returns-in-Check g c = rw c.in-Check.is (record {
+  does = λ beside. c.check.ensures (record beside { files = g.F.Files.state c.args.files.now; scorer = g.S.Scorer.state c.args.scorer.now; out = g.O.Sink.state c.args.out.now });
   unfetched = λ number rows generated. absurd cc;
 })

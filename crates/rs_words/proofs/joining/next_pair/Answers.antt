@@ -23,6 +23,9 @@ returns-in-Ok-clause-joining c =
       right_feed = drawn-after c.args.right.now c.next.new.right c.args.join.now.right c.next.new.self.right c.next.new.self.broken c.requires.right_feed ensures.after.broken ensures.right ensures.right_told;
     }
 
+pub returns-in-Ok-clause-counted : goal.returns-in-Ok-clause-counted
+returns-in-Ok-clause-counted c = c.in-Ok.ensures.counted c.in-Ok.ensures.after.broken
+
 pub returns-in-Ok-clause-left_rows : goal.returns-in-Ok-clause-left_rows
 returns-in-Ok-clause-left_rows c = rows-kept c.args.left.now.rows c.next.new.left.rows c.in-Ok.ensures.left_told
 

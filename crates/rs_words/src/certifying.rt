@@ -1,0 +1,110 @@
+ghost use Rattle.std.specs.Prelude.{◌≡◌, ◌⊎◌, ◌≤◌, Ok, Err, MatchResult, length};
+ghost use Rattle.rs_events.specs.Environment.{Environment};
+ghost use Rattle.rs_events.specs.Events.{finds_in};
+ghost use Rattle.rs_events.specs.Running.{Ran, Runs};
+ghost use Rattle.rs_cert.specs.Records.{most_wanted};
+ghost use Rattle.rs_cert_join.specs.Certs.{cert_of};
+ghost use Rattle.rs_feed_join.specs.Joins.{new_feed_join, side_in};
+ghost use Rattle.rs_words.specs.Certifying.{IsCertRun, certified, few_rows, joined_bytes, joined_cert_run};
+ghost use Rattle.rs_words.specs.Faults.{feed_faults, put_faults};
+ghost use Rattle.rs_words.specs.Joining.{IsJoining};
+
+use crate::fault::WordFault;
+use crate::feed_file::read_feed;
+use crate::joining::next_pair;
+use rs_cert::MOST_ROWS;
+use rs_events::put_text;
+use rs_feed_join::FeedJoin;
+use rs_outside::{Files, Sink};
+use rs_table_feed::TableFeed;
+use rs_value::Text;
+use std::alloc::Global;
+
+/// Does what `cert LEFT RIGHT K` says: it joins two files that are ranked feeds as `feed` does, and puts the certificate of the first
+/// `k` pairs and of the rows that were drawn for them. It puts nothing before the join is done.
+pub fn cert_word<F: Files, O: Sink>(
+    alloc: Global,
+    left: &Text,
+    right: &Text,
+    k: u32,
+    files: &mut F,
+    out: &mut O,
+) -> Result<(), WordFault>
+    requires { k ≤ most_wanted }
+    ensures { (beside : Environment) → Runs (feed_faults left.now right.now)
+        (IsCertRun (finds_in (F.state files.old).told) (record { left = left.now; right = right.now; count = k })) result
+        (record beside { files = F.state files.old; out = O.state out.old }) (record beside { files = F.state files.new; out = O.state out.new }) }
+{
+    let mut left = read_feed(alloc, 1, left, files)?;
+    let mut right = read_feed(alloc, 2, right, files)?;
+    put_cert(alloc, k, &mut left, &mut right, out)
+}
+
+/// Puts the certificate of the first `count` pairs of two feeds of which nothing is drawn.
+fn put_cert<O: Sink>(
+    alloc: Global,
+    count: u32,
+    left: &mut TableFeed,
+    right: &mut TableFeed,
+    out: &mut O,
+) -> Result<(), WordFault>
+    requires joining { IsJoining new_feed_join left.old right.old }
+    requires wanted { count ≤ most_wanted }
+    ensures { (beside : Environment) → Ran put_faults (joined_cert_run left.old.rows right.old.rows count) result
+        (record beside { out = O.state out.old }) (record beside { out = O.state out.new }) }
+{
+    let bytes = cert_bytes(alloc, count, left, right)?;
+    put_text(&bytes, out)
+}
+
+/// Its bytes.
+fn cert_bytes(
+    alloc: Global,
+    count: u32,
+    left: &mut TableFeed,
+    right: &mut TableFeed,
+) -> Result<Vec<u8>, WordFault>
+    requires joining { IsJoining new_feed_join left.old right.old }
+    requires wanted { count ≤ most_wanted }
+    ensures { MatchResult result (λ bytes. joined_bytes left.old.rows right.old.rows count ≡ Ok bytes.items)
+        (λ fault. (fault ≡ WordFault.Memory) ⊎ (joined_bytes left.old.rows right.old.rows count ≡ Err fault)) }
+{
+    let mut join = FeedJoin::new(alloc);
+    let pairs = first_pairs(alloc, &mut join, count, left, right)?;
+    require_few(&join, 1)?;
+    require_few(&join, 2)?;
+    Ok(rs_cert_join::write(alloc, &join, count, &pairs)?)
+}
+
+/// The first `count` pairs of two feeds, by the numbers of their rows, which a join gives that has drawn nothing.
+fn first_pairs(
+    alloc: Global,
+    join: &mut FeedJoin,
+    count: u32,
+    left: &mut TableFeed,
+    right: &mut TableFeed,
+) -> Result<Vec<(u32, u32)>, WordFault>
+    requires joining { IsJoining join.old left.old right.old }
+    requires undrawn { join.old ≡ new_feed_join }
+    ensures { MatchResult result (λ pairs. certified left.old.rows right.old.rows count ≡ Ok (cert_of join.new count pairs.items))
+        (λ fault. (fault ≡ WordFault.Memory) ⊎ (certified left.old.rows right.old.rows count ≡ Err fault)) }
+{
+    let mut pairs = Vec::new(alloc);
+    for index in 0..count {
+        match next_pair(join, left, right)? {
+            Some(pair) => pairs.push((pair.left, pair.right))?,
+            None => return Ok(pairs),
+        }
+    }
+    Ok(pairs)
+}
+
+/// Refuses a join that drew more rows of a side than a certificate takes.
+fn require_few(join: &FeedJoin, side: u8) -> Result<(), WordFault>
+    ensures { result ≡ few_rows side (length (side_in side join.now).rows) }
+{
+    if join.drawn(side) as usize > MOST_ROWS {
+        return Err(WordFault::CertTooLong { file: side });
+    }
+    Ok(())
+}
