@@ -12,10 +12,11 @@ use Rattle.rs_run.specs.declared.fault.RunFault.TheVariants.{Statement, Usage}
 use Rattle.rs_words.specs.declared.fault.WordFault.{WordFault}
 use Rattle.rs_words.specs.Feeding.{IsFeedRun}
 use Rattle.rs_run.specs.FeedTold.{word_fault}
-use Rattle.rs_run.specs.Words.{Feed, Form, RunGenerated, RunScript, Threshold, Top, form_of}
+use Rattle.rs_run.specs.Words.{Feed, Form, RunGenerated, RunScript, Threshold, Top, Views, form_of}
 use Rattle.rs_run.specs.Top.{top_lines}
 use Rattle.rs_run.specs.Plain.{HasStatements, ScriptRuns, as_it_is, source_of}
 use Rattle.rs_run.specs.Threshold.{ScansRun}
+use Rattle.rs_run.specs.Viewing.{ViewsRun}
 use Rattle.rs_expr.specs.Scoring.{Answering}
 use Rattle.rs_events.specs.Events.{Finds}
 use Rattle.rs_statement.specs.Steps.{Run}
@@ -44,6 +45,7 @@ IsRunOf finds answer _ run = ⊥
 abbrev pub IsFormRun : Finds → Answering → Form → WordsRun → Type 0
 IsFormRun finds answer (Threshold name) run = ScriptRuns Statement finds (ScansRun finds answer) name run
 IsFormRun finds answer (Feed words) run = (own : events.Run WordFault) × IsFeedRun finds words own × (run ≡ with_fault (word_fault words.left words.right) own)
+IsFormRun finds answer (Views name) run = ScriptRuns Statement finds (ViewsRun finds answer) name run
 IsFormRun finds answer form run = (own : Run) × IsRunOf finds answer form own × (run ≡ with_fault Statement own)
 
 -- the run of words of this form; where they are of none, it ends at once

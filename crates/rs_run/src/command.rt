@@ -18,6 +18,7 @@ use crate::report::report;
 use crate::status::Status;
 use crate::threshold::run_by_scan;
 use crate::top::top;
+use crate::viewing::run_with_views;
 use crate::words::{CommandLine, command_line_of};
 use rs_expr::Scorer;
 use rs_outside::{Files, Sink};
@@ -158,5 +159,8 @@ fn obey<F: Files, S: Scorer, O: Sink>(
             run_by_scan(alloc, script, &mut Readers::new(), files, scorer, out)
         }
         CommandLine::Feed(words) => feed(alloc, words.left, words.right, words.count, files, out),
+        CommandLine::Views(script) => {
+            run_with_views(alloc, script, &mut Readers::new(), files, scorer, out)
+        }
     }
 }

@@ -17,6 +17,8 @@ mod statement;
 mod status;
 mod threshold;
 mod top;
+mod viewing;
+mod views;
 mod words;
 
 pub use command::{run, run_file};

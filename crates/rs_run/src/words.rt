@@ -1,5 +1,5 @@
 ghost use Rattle.std.specs.Prelude.{◌≡◌, option_map};
-ghost use Rattle.rs_run.specs.Words.{feed_form, form_of, gen_form, number_word, plain_form, run_form, ta_form, top_form};
+ghost use Rattle.rs_run.specs.Words.{feed_form, form_of, gen_form, number_word, plain_form, run_form, ta_form, top_form, view_form};
 ghost use Rattle.rs_run.specs.Parts.CommandLine.{form_of_command_line};
 
 use rs_statement::{Evaluating, Sampling};
@@ -45,6 +45,8 @@ pub enum CommandLine<'a> {
     /// The statements of the script of this name, with its queries answered by threshold scans.
     Threshold(&'a Text),
     Feed(FeedCommand<'a>),
+    /// The statements of the script of this name, with its queries kept as views.
+    Views(&'a Text),
 }
 
 /// What the words of a command line ask for, without the program's name, where they are of a form. The forms are tried in order.
@@ -66,7 +68,10 @@ pub fn command_line_of(words: &[Text]) -> Option<CommandLine<'_>>
     if let Some(command) = ta_command(words) {
         return Some(command);
     }
-    feed_command(words)
+    if let Some(command) = feed_command(words) {
+        return Some(command);
+    }
+    view_command(words)
 }
 
 /// The command of the words `top FILE COLUMN MAX K`.
@@ -161,6 +166,19 @@ fn feed_command(words: &[Text]) -> Option<CommandLine<'_>>
         right,
         count: count as u32,
     }))
+}
+
+/// The command of the words `view SCRIPT`.
+fn view_command(words: &[Text]) -> Option<CommandLine<'_>>
+    ensures { option_map form_of_command_line result ≡ view_form words.now }
+{
+    let [word, script] = words else {
+        return None;
+    };
+    if word.as_str() != "view" {
+        return None;
+    }
+    Some(CommandLine::Views(script))
 }
 
 /// A number of the command line: 1 to 20 decimal digits, that write a number from `least` to `most`.

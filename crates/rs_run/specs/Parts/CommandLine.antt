@@ -4,7 +4,7 @@ use Rattle.rs_run.specs.declared.words.FeedCommand.{FeedCommand}
 use Rattle.rs_run.specs.declared.words.TopCommand.{TopCommand}
 use Rattle.rs_run.specs.declared.words.CommandLine.{CommandLine}
 use Rattle.rs_run.specs.declared.words.CommandLine.TheVariants as command
-use Rattle.rs_run.specs.Words.{Feed, Form, RunGenerated, RunScript, Threshold, Top, TopWords}
+use Rattle.rs_run.specs.Words.{Feed, Form, RunGenerated, RunScript, Threshold, Top, TopWords, Views}
 
 abbrev pub words_of : TopCommand → TopWords
 words_of top = record { file = top.file.now; column = top.column.now; max = top.max; count = top.count }
@@ -19,3 +19,4 @@ form_of_command_line (command.RunScript script evaluating) = RunScript script.no
 form_of_command_line (command.RunGenerated number rows) = RunGenerated number rows
 form_of_command_line (command.Threshold script) = Threshold script.now
 form_of_command_line (command.Feed feed) = Feed (feed_words_of feed)
+form_of_command_line (command.Views script) = Views script.now
