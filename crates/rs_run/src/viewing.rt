@@ -28,7 +28,7 @@ use rs_catalog::Catalog;
 use rs_events::{Host, Objects};
 use rs_expr::Scorer;
 use rs_outside::{Files, Sink};
-use rs_query::{Query, catalogues_grow};
+use rs_query::Query;
 use rs_statement::{Evaluating, Fault, Session, insert_rows, release};
 use rs_syntax::{Name, Select, Statement};
 use rs_table::TableReader;
@@ -253,7 +253,6 @@ fn run_kept<T: TableReader, W: Host>(
         ),
         _ => {
             views_go_on_to_stand();
-            catalogues_grow();
             run_without_cursor(alloc, Evaluating::Plainly, statement, catalog, tables, host)
         }
     }
@@ -279,7 +278,6 @@ fn insert_and_grow<S: Scorer>(
     ensures stand { IfOk result (λ _. AllStand (S.state scorer.old).answer catalog.new (views_in held.new)) }
 {
     views_go_on_to_stand();
-    catalogues_grow();
     insert_rows(alloc, statement, catalog, scorer)?;
     grow_views(alloc, catalog, held, scorer)
 }
