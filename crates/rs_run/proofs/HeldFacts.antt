@@ -1,6 +1,6 @@
 -- The held views as a map by name: what a look-up, a removal and a new entry are to the list of views, and which of them stand.
-use Rattle.std.proofs.Common.{ℕ, ◌≡◌, ◌∙◌, Bool, true, false, cond, List, [], ◌∷◌, ◌++◌, zero, suc, length, eqb, eq-eqb, append-nil, refl, sym, ap, subst}
-use Rattle.std.specs.Prelude.{not, Option, Some, None, Result, Ok, Err, if◌then◌else◌, option_map, slice_get}
+use Rattle.std.proofs.Common.{ℕ, ◌≡◌, ◌∙◌, Bool, true, false, cond, List, [], ◌∷◌, ◌++◌, zero, suc, length, take, eqb, eq-eqb, append-nil, refl, sym, ap, subst}
+use Rattle.std.specs.Prelude.{not, min, Option, Some, None, Result, Ok, Err, if◌then◌else◌, option_map, slice_get}
 use Rattle.std.specs.List.{AllByRecursion, filter}
 use Rattle.std.specs.Cmp.Lexicographic.{bytes_decides}
 use Rattle.std.specs.Map.{keys_of, lookup, remove_entry}
@@ -14,8 +14,8 @@ use Rattle.rs_syntax.specs.Syntax.{Command}
 use Rattle.rs_syntax.specs.Written.{IsWritten}
 use Rattle.rs_table.specs.Lent.{with_rows}
 use Rattle.rs_table.specs.Relation.{Relation}
-use Rattle.rs_catalog.specs.Catalog.{NamedTable, RankIndex, with_rows_in}
-use Rattle.rs_catalog.specs.Growing.{grown}
+use Rattle.rs_catalog.specs.Catalog.{NamedTable, RankIndex}
+use Rattle.rs_catalog.specs.Growing.{grown, with_rows_in}
 use Rattle.rs_catalog.proofs.JoinedFacts.{joined-index, joined-predicate, joined-table, only_index, only_predicate, only_table}
 use Rattle.rs_query.specs.Growth.{CatalogueGrows}
 use Rattle.rs_query.proofs.GrowthFacts.{grows-joined, grows-same}
@@ -171,3 +171,9 @@ pub stand-step : (answer : Answering) (catalogue : CatalogDef) (finds : Finds) (
     → AllStand answer catalogue views → IsWritten command → Does finds answer Plainly catalogue command step → step.outcome ≡ Ok next → AllStand answer next views
 stand-step answer catalogue finds command step next views on all written does leaves =
     stand-on answer on catalogue next (grows-step answer catalogue finds command step next written does leaves) views all
+
+-- the first ones of some items, where more are wanted than there are
+pub take-within : {A : Type 0} (n : ℕ) (xs : List A) → take (min n (length xs)) xs ≡ take n xs
+take-within zero xs = refl
+take-within (suc n) [] = refl
+take-within (suc n) (x ∷ xs) = ap (λ rest. x ∷ rest) (take-within n xs)

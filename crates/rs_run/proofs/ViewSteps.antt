@@ -7,6 +7,7 @@ use Rattle.rs_lex.specs.declared.token.Span.{Span}
 use Rattle.rs_syntax.specs.Syntax.{Ask, Close, Command, CreatePredicate, CreateRankIndex, CreateTable, Declare, Explain, ExplainAnalyze, Insert, command_of}
 use Rattle.rs_syntax.specs.Syntax as syntax
 use Rattle.rs_syntax.specs.declared.name.Name.{Name}
+use Rattle.rs_syntax.specs.declared.row.RowSyn.{RowSyn}
 use Rattle.rs_syntax.specs.declared.select.Select.{Select}
 use Rattle.rs_syntax.specs.declared.statement.Statement as syntax_statement
 use Rattle.rs_syntax.specs.declared.statement.Statement.TheVariants as syntax_variants
@@ -26,7 +27,9 @@ use Rattle.rs_statement.specs.declared.evaluating.Evaluating.TheVariants.{Plainl
 use Rattle.rs_statement.specs.declared.fault.Fault.{Fault}
 use Rattle.rs_statement.specs.declared.fault.Fault.TheVariants.{Memory}
 use Rattle.rs_statement.specs.Parts.Session.{IsOfNoCursor}
-use Rattle.rs_statement.specs.Statements.{Does}
+use Rattle.rs_bind.specs.Inserts.{IsInsert, insert_of}
+use Rattle.rs_statement.specs.Inserts.{insert_step}
+use Rattle.rs_statement.specs.Statements.{Does, or_bind_fault, refused_or}
 use Rattle.rs_statement.specs.Steps as statement
 use Rattle.rs_statement.specs.Steps.{statement_faults}
 use Rattle.rs_statement.proofs.StatementFacts.{Does-finds, finds-after}
@@ -214,3 +217,81 @@ Stepped-beside_views of own views left result old new does made = record {
   go : (result : Result (Unit {0}) Fault) → IfOk result (λ done. made.step.outcome ≡ Ok left) → IfOk result (λ done. (beside_views views made.step).outcome ≡ Ok (record { catalogue = left; views = views }))
   go (Ok done) leaves = ap (λ outcome. outcome >>= (λ (catalogue : CatalogDef). Ok (record { catalogue = catalogue; views = views }))) leaves
   go (Err fault) leaves = tt
+
+-- a statement that makes a table, a predicate or an index
+abbrev pub IsMaking : Command → Type 0
+IsMaking (CreateTable name columns file) = Unit {0}
+IsMaking (CreatePredicate name params max cost formula) = Unit {0}
+IsMaking (CreateRankIndex name table predicate args at) = Unit {0}
+IsMaking (Ask query) = Unit {0}
+IsMaking (Declare name query) = Unit {0}
+IsMaking (Explain query) = Unit {0}
+IsMaking (ExplainAnalyze query) = Unit {0}
+IsMaking _ = ⊥
+
+-- of those that are kept these are the ones that are neither FETCH nor CLOSE nor INSERT
+pub made-others : (s : syntax_statement.Statement) → ((count : ℤ × Span) (name : Name) → s ≡ syntax_variants.Fetch count name → ⊥) → ((name : Name) → s ≡ syntax_variants.Close name → ⊥)
+    → ((table : Name) (rows : List RowSyn) → s ≡ syntax_variants.Insert table rows → ⊥) → IsMaking (command_of s)
+made-others (syntax_variants.CreateTable name columns file) a b c = tt
+made-others (syntax_variants.CreatePredicate name params max cost formula) a b c = tt
+made-others (syntax_variants.CreateRankIndex name table predicate args at) a b c = tt
+made-others (syntax_variants.Declare name select) a b c = tt
+made-others (syntax_variants.Query select) a b c = tt
+made-others (syntax_variants.Explain select) a b c = tt
+made-others (syntax_variants.ExplainAnalyze select) a b c = tt
+made-others (syntax_variants.Insert table rows) a b c = absurd (c table rows refl)
+made-others (syntax_variants.Fetch count name) a b c = absurd (a count name refl)
+made-others (syntax_variants.Close name) a b c = absurd (b name refl)
+
+pub kept-of_no_cursor : (command : Command) → IsKept command → IsMaking command → IsOfNoCursor command
+kept-of_no_cursor (CreateTable name columns file) is making = tt
+kept-of_no_cursor (CreatePredicate name params max cost formula) is making = tt
+kept-of_no_cursor (CreateRankIndex name table predicate args at) is making = tt
+kept-of_no_cursor (Insert table rows) is making = absurd making
+kept-of_no_cursor (syntax.Fetch count name) is making = absurd making
+kept-of_no_cursor (Close name) is making = absurd making
+kept-of_no_cursor (Ask query) is making = absurd is
+kept-of_no_cursor (Declare name query) is making = absurd is
+kept-of_no_cursor (Explain query) is making = absurd is
+kept-of_no_cursor (ExplainAnalyze query) is making = absurd is
+
+-- it leaves the views as they are
+pub beside-does : (finds : Finds) (answer : Answering) (kept : Kept) (command : Command) (step : statement.Step CatalogDef) → IsKept command → IsMaking command
+    → Does finds answer Plainly kept.catalogue command step → DoesKept finds answer kept command (beside_views kept.views step)
+beside-does finds answer kept (CreateTable name columns file) step is making does = (step, does, refl)
+beside-does finds answer kept (CreatePredicate name params max cost formula) step is making does = (step, does, refl)
+beside-does finds answer kept (CreateRankIndex name table predicate args at) step is making does = (step, does, refl)
+beside-does finds answer kept (Insert table rows) step is making does = absurd making
+beside-does finds answer kept (syntax.Fetch count name) step is making does = absurd making
+beside-does finds answer kept (Close name) step is making does = absurd making
+beside-does finds answer kept (Ask query) step is making does = absurd is
+beside-does finds answer kept (Declare name query) step is making does = absurd is
+beside-does finds answer kept (Explain query) step is making does = absurd is
+beside-does finds answer kept (ExplainAnalyze query) step is making does = absurd is
+
+-- an INSERT: what it does of no cursor, and then the views grow
+pub insert-does : (finds : Finds) (answer : Answering) (catalogue : CatalogDef) (command : Command) (step : statement.Step CatalogDef) → IsInsert command
+    → step ≡ refused_or (insert_step answer catalogue) (or_bind_fault (insert_of catalogue command)) → Does finds answer Plainly catalogue command step
+insert-does finds answer catalogue (Insert table rows) step is does = does
+insert-does finds answer catalogue (CreateTable name columns file) step is does = absurd is
+insert-does finds answer catalogue (CreatePredicate name params max cost formula) step is does = absurd is
+insert-does finds answer catalogue (CreateRankIndex name table predicate args at) step is does = absurd is
+insert-does finds answer catalogue (syntax.Fetch count name) step is does = absurd is
+insert-does finds answer catalogue (Close name) step is does = absurd is
+insert-does finds answer catalogue (Ask query) step is does = absurd is
+insert-does finds answer catalogue (Declare name query) step is does = absurd is
+insert-does finds answer catalogue (Explain query) step is does = absurd is
+insert-does finds answer catalogue (ExplainAnalyze query) step is does = absurd is
+
+pub does-joined : (finds : Finds) (answer : Answering) (kept : Kept) (command : Command) (step : statement.Step CatalogDef) → IsInsert command
+    → step ≡ refused_or (insert_step answer kept.catalogue) (or_bind_fault (insert_of kept.catalogue command)) → DoesKept finds answer kept command (joined_step answer kept.views step)
+does-joined finds answer kept (Insert table rows) step is does = (step, does, refl)
+does-joined finds answer kept (CreateTable name columns file) step is does = absurd is
+does-joined finds answer kept (CreatePredicate name params max cost formula) step is does = absurd is
+does-joined finds answer kept (CreateRankIndex name table predicate args at) step is does = absurd is
+does-joined finds answer kept (syntax.Fetch count name) step is does = absurd is
+does-joined finds answer kept (Close name) step is does = absurd is
+does-joined finds answer kept (Ask query) step is does = absurd is
+does-joined finds answer kept (Declare name query) step is does = absurd is
+does-joined finds answer kept (Explain query) step is does = absurd is
+does-joined finds answer kept (ExplainAnalyze query) step is does = absurd is
