@@ -1,5 +1,5 @@
 -- Held views that grow one after another, and what an INSERT did with them.
-use Rattle.std.proofs.Common.{ℕ, ◌≡◌, ◌∙◌, ◌≤◌, ◌++◌, List, [], ◌∷◌, zero, suc, length, map, take, drop, Some, append-nil, refl, sym, ap, subst}
+use Rattle.std.proofs.Common.{ℕ, ◌≡◌, ◌∙◌, ◌<◌, ◌≤◌, ◌++◌, arith, get_or, List, [], ◌∷◌, zero, suc, length, map, take, drop, Some, append-nil, refl, sym, ap, subst}
 use Rattle.std.specs.Prelude.{Result, Ok, Err, slice_get}
 use Rattle.std.proofs.lemmas.List.{drop_all, take_all}
 use Rattle.indexmap.specs.IndexMap.{set_value_at}
@@ -24,13 +24,7 @@ abbrev pub grown_up_to : Answering → CatalogDef → ℕ → List HeldView → 
 grown_up_to answer catalogue i views = map (grown_view answer catalogue) (take i views) ++ drop i views
 
 module _ (answer : Answering) (catalogue : CatalogDef) where
-  -- the next one didn't grow yet
-  pub value-up_to : (views : List HeldView) (i : ℕ) (held : HeldView) → slice_get views i ≡ Some held → slice_get (map (λ (h : HeldView). h.1) (grown_up_to answer catalogue i views)) i ≡ Some held.1
-  value-up_to [] i held e = absurd cc
-  value-up_to (first ∷ views) zero held e = let same : first ≡ held = cc in ap (λ (h : HeldView). Some h.1) same
-  value-up_to (first ∷ views) (suc i) held e = value-up_to views i held e
-
-  -- and once it did, one more grew
+  -- once the next one grew, one more did
   pub set-up_to : (views : List HeldView) (i : ℕ) (held : HeldView) → slice_get views i ≡ Some held
       → set_value_at (grown_up_to answer catalogue i views) i (whole_view answer catalogue held.1.query) ≡ grown_up_to answer catalogue (suc i) views
   set-up_to [] i held e = absurd cc
@@ -85,3 +79,28 @@ module _ (answer : Answering) (views : List HeldView) (own : statement.Step Cata
           (subst (λ (outcome : Result CatalogDef Fault). Ran statement_faults (run_of (step_of joined.step.events outcome)) (Err fault) old new) e joined.ran);
       leaves = tt;
     }
+
+-- the held view at a place of the loop, of which only the view is known there
+pub record At (views : List HeldView) (i : ℕ) (view : ViewDef) : Type 0 where
+  pub held : HeldView
+  pub there : slice_get views i ≡ Some held
+  pub within : i < length views
+  pub own : held ≡ get_or views i held
+  pub view : view ≡ held.1
+
+at-place : (answer : Answering) (catalogue : CatalogDef) (views : List HeldView) (i : ℕ) (view : ViewDef)
+    → slice_get (map (λ (h : HeldView). h.1) (grown_up_to answer catalogue i views)) i ≡ Some view → At views i view
+at-place answer catalogue [] i view e = absurd (none-there i e) where
+  none-there : (i : ℕ) → slice_get (map (λ (h : HeldView). h.1) (grown_up_to answer catalogue i [])) i ≡ Some view → ⊥
+  none-there zero e = cc
+  none-there (suc i) e = cc
+at-place answer catalogue (held ∷ views) zero view e =
+    record { held = held; there = refl; within = omega arith; own = refl; view = let same : held.1 ≡ view = cc in sym same }
+at-place answer catalogue (held ∷ views) (suc i) view e =
+    let rest = at-place answer catalogue views i view e in
+    record { held = rest.held; there = rest.there; within = omega (arith, rest.within); own = rest.own; view = rest.view }
+
+pub held-at : (answer : Answering) (catalogue : CatalogDef) (views : List HeldView) (i : ℕ) (now : List HeldView) (view : ViewDef) → now ≡ grown_up_to answer catalogue i views
+    → slice_get (map (λ (h : HeldView). h.1) now) i ≡ Some view → At views i view
+held-at answer catalogue views i now view grown e =
+    at-place answer catalogue views i view (subst (λ (entries : List HeldView). slice_get (map (λ (h : HeldView). h.1) entries) i ≡ Some view) grown e)
