@@ -16,3 +16,4 @@ pub mod LaterFacts
 pub mod HeldFacts
 pub mod GrowthSteps
 pub mod ViewSteps
+pub mod WorkedViews
