@@ -248,9 +248,7 @@ fn run_kept<T: TableReader, W: Host>(
     match statement {
         Statement::Fetch { count, name } => fetch_view(alloc, count, name, held, host.out()),
         Statement::Close { name } => close_view(name, held),
-        Statement::Insert { .. } => insert_and_grow(
-            alloc, statement, catalog, held, host.scorer(),
-        ),
+        Statement::Insert { .. } => insert_and_grow(alloc, statement, catalog, held, host.scorer()),
         _ => {
             views_go_on_to_stand();
             run_without_cursor(alloc, Evaluating::Plainly, statement, catalog, tables, host)
