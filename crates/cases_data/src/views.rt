@@ -130,12 +130,12 @@ fn tell_rows(rows: &[Answer], told: &mut String) -> Result<(), Fault> {
     for row in rows {
         tell_answer(row, told)?;
     }
-    Ok(told.push_str("\n  ")?)
+    Ok(told.push_str("\n")?)
 }
 
 fn tell_fault(fault: PlainFault, told: &mut String) -> Result<(), Fault> {
     match fault {
         PlainFault::Memory => Err(Fault::Memory),
-        fault => Ok(write!(told, "{fault:?}\n  ")?),
+        fault => Ok(write!(told, "{fault:?}\n")?),
     }
 }
