@@ -3,12 +3,11 @@
 ghost use Rattle.std.specs.Prelude.{◌≡◌, ◌++◌, ◌∷◌, [], IfErr, IfOk, OnErr, OnOk, false, take};
 ghost use Rattle.indexmap.specs.IndexMap.{keys};
 ghost use Rattle.rs_value.specs.Answer.{Gives};
-ghost use Rattle.rs_lines.specs.Row.{line_of};
 ghost use Rattle.rs_catalog.specs.Catalog.{CatalogDef, has_name};
 ghost use Rattle.rs_expr.specs.InOrder.{Inquires};
 ghost use Rattle.rs_expr.specs.Scoring.{Answering};
 ghost use Rattle.rs_query.specs.WellFormed.{IsQuery};
-ghost use Rattle.rs_view.specs.Views.{IsKeepable, Stands};
+ghost use Rattle.rs_view.specs.Views.{IsKeepable};
 ghost use Rattle.rs_events.specs.Environment.{Environment};
 ghost use Rattle.rs_events.specs.Run.{lines_run};
 ghost use Rattle.rs_statement.specs.Lines.{rank_lines};
