@@ -1,4 +1,4 @@
-use Rattle.std.proofs.Common.{◌≡◌, [], ap, refl, subst, sym}
+use Rattle.std.proofs.Common.{List, [], ap, refl, subst, sym}
 use Rattle.std.specs.Prelude.{Err, Ok}
 use Rattle.rs_value.proofs.ResultFacts.{given-err}
 use Rattle.rs_plain.specs.Plain.{plain_faults}
@@ -11,9 +11,10 @@ use Rattle.rs_events.proofs.RanFacts.{HasDone-none, Ran-all, Ran-first}
 use Rattle.rs_statement.specs.declared.fault.Fault.TheVariants as fault
 use Rattle.rs_statement.specs.Statements.{query_fault}
 use Rattle.rs_statement.proofs.QuerySteps.{Probes-questions}
+use Rattle.rs_statement.proofs.SessionSteps.{Stepped-left}
 use Rattle.rs_statement.proofs.StepFacts.{Stepped-bound, Stepped-refused}
 use Rattle.rs_run.specs.Parts.Holding.{AllStand, kept_of, views_in}
-use Rattle.rs_run.specs.Viewing.{made_outcome, made_step, room_for_view}
+use Rattle.rs_run.specs.Viewing.{HeldView, made_outcome, made_step, room_for_view, with_view}
 use Rattle.rs_run.proofs.HeldFacts.{stand-append}
 use Rattle.rs_run.proofs.views.make_view.Goals as goal
 
@@ -52,7 +53,21 @@ returns-in_err-hold g c =
     let before = g.S.Scorer.state c.args.scorer.now in
     let after = g.S.Scorer.state c.make.new.scorer in
     let catalogue = c.args.catalog.now in
-    let kept = kept_of catalogue (views_in c.args.held.now) in ?
+    let views = views_in c.args.held.now in
+    let kept = kept_of catalogue views in
+    let name = c.args.name.now in
+    let made = with_view name c.in-Ok-2.view kept in
+    let left = kept_of catalogue (views_in c.hold.new.held) in
+    rw (given-err c.from_residual.result fault.Memory c.from_residual.ensures) (record {
+      makes = λ beside.
+          let old = record beside { scorer = before } in
+          let new = record beside { scorer = after } in
+          Stepped-bound (λ room. made_step before.answer name kept c.args.query) (room_for_view name views) tt left (Err fault.Memory) old new c.in-Ok.ensures.gives
+          (Stepped-left _ made left (Err fault.Memory) old new tt
+          (Stepped-asked (λ made. []) (made_outcome name kept) plain.Memory (making before.answer catalogue c.args.query) made old after c.in-Ok-2.view (Err fault.Memory) new refl c.in-Ok-2.ensures.makes
+          (Ran-first (lines_run []) new)));
+      stand = tt;
+    })
 
 -- it is the last one
 pub returns : goal.returns
