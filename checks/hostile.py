@@ -41,7 +41,7 @@ PAIRS = b"x,y\n10,3\n8,9\n5,1\n2,10\n"
 TOP = ["top", "h.csv", "price", "100", "2"]
 TOP_ROWS = b"1,90,b,90,1\n2,40,a,40,1\n"
 RUN = ["run", "s.sql", "1"]
-USAGE = b"usage: ranksql top FILE COLUMN MAX K, run SCRIPT SEED, plain SCRIPT, gen NUMBER ROWS, ta SCRIPT, feed LEFT RIGHT K, cert LEFT RIGHT K, check FILE\n"
+USAGE = b"usage: ranksql top FILE COLUMN MAX K, run SCRIPT SEED, plain SCRIPT, gen NUMBER ROWS, ta SCRIPT, feed LEFT RIGHT K, cert LEFT RIGHT K, check FILE, view SCRIPT\n"
 
 failures = 0
 

@@ -8,7 +8,7 @@ export LC_ALL=C
 root=$(cd "$(dirname "$0")/.." && pwd -P)
 built=$root/crates/ranksql/out/ranksql
 program=${RANKSQL:-$built}
-usage='usage: ranksql top FILE COLUMN MAX K, run SCRIPT SEED, plain SCRIPT, gen NUMBER ROWS, ta SCRIPT, feed LEFT RIGHT K, cert LEFT RIGHT K, check FILE'
+usage='usage: ranksql top FILE COLUMN MAX K, run SCRIPT SEED, plain SCRIPT, gen NUMBER ROWS, ta SCRIPT, feed LEFT RIGHT K, cert LEFT RIGHT K, check FILE, view SCRIPT'
 if [ ! -x "$program" ]; then
     echo "there is no program $program: ./ranksql builds it" >&2
     exit 1
@@ -307,11 +307,13 @@ while IFS= read -r script; do
         failed "the example $script has no file ${script%.sql}.out of what it prints"
         continue
     fi
-    # Only `run` says something of a plan, and only `ta` of accesses. All else is the same under both words.
+    # Only `run` says something of a plan, only `ta` of accesses, and only `view` keeps its cursors up to date. All else is the same under
+    # `plain` and `run`.
     words=(plain run)
     case $script in
         */plans.sql | */analyzed.sql | */savings.sql | */tops.sql) words=(run) ;;
         */threshold.sql) words=(ta) ;;
+        */board.sql) words=(view) ;;
         *) ! grep -q '^EXPLAIN' "$root/$script" || words=(plain) ;;
     esac
     # The command gives no line feeds at the end, so a mark goes behind them.
@@ -491,6 +493,22 @@ front="${both}SELECT DISTINCT "
 script "${front}z FROM t ORDER BY p(x);"
 expect 'a column that is not there under ta' 5 '' "script: bind NoColumn at ${#front}"$'\n' -- ta s.sql
 expect 'a seed for ta' 2 '' "$usage"$'\n' -- ta s.sql 1
+
+# ---- kept views
+script "${base}DECLARE k CURSOR FOR SELECT x FROM t ORDER BY p(x) + p(y) LIMIT 2; FETCH 5 FROM k; INSERT INTO t VALUES (9, 10), (9, 8); FETCH 5 FROM k;"
+expect 'a view that grows' 0 $'1,17,8\n2,13,10\n1,19,9\n2,17,8\n' '' -- view s.sql
+script "${base}DECLARE n CURSOR FOR SELECT x.name, y.name FROM h x, h y WHERE x.city = y.city ORDER BY near(x.price, y.price) LIMIT 2; FETCH 5 FROM n; INSERT INTO h VALUES ('d', 40, 1); FETCH 5 FROM n;"
+expect 'a new pair before an older one of its score' 0 $'1,100,a,a\n2,100,b,b\n1,100,a,a\n2,100,a,d\n' '' -- view s.sql
+script "${base}EXPLAIN SELECT x FROM t ORDER BY p(x);"
+expect 'EXPLAIN of a view' 5 '' $'script: view NotEligible statement 6\n' -- view s.sql
+front="${base}DECLARE k CURSOR FOR SELECT DISTINCT "
+script "${front}z FROM t ORDER BY p(x);"
+expect 'a column that is not there under view' 5 '' "script: bind NoColumn at ${#front}"$'\n' -- view s.sql
+script "${front}x FROM t ORDER BY p(x);"
+expect 'a view with DISTINCT' 5 '' $'script: view NotEligible statement 6\n' -- view s.sql
+script "${base}DECLARE k CURSOR FOR SELECT x FROM t ORDER BY p(x); CLOSE k; FETCH 1 FROM k;"
+expect 'a view that was closed' 9 '' $'session: Unknown k\n' -- view s.sql
+expect 'a seed for view' 2 '' "$usage"$'\n' -- view s.sql 1
 
 # ---- two ranked feeds
 printf 'key,score\na,9\nb,8\na,7\nc,5\nb,1\n' >fl.csv

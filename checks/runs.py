@@ -1,5 +1,5 @@
 #!/usr/bin/env python3
-"""Works out what the words `top`, `run`, `plain`, `gen`, `ta`, `feed`, `cert` and `check` and the lines `guess` do in the cases of the program cases_runs whose files it can read, from the definitions.
+"""Works out what the words `top`, `run`, `plain`, `gen`, `ta`, `feed`, `cert`, `check` and `view` and the lines `guess` do in the cases of the program cases_runs whose files it can read, from the definitions.
 
 Queries, their plans and their calls are those of queries.py, threshold scans those of threshold.py, what joins of feeds give and draw is that of feeds.py, and certificates are read and checked by certificates.py. The cases that it can't read stay as they are: those in which a
 name, a type or a file of a script is refused, and words of no form. Of refused scripts it reads those that pass a limit or
@@ -20,6 +20,10 @@ With the word `gen`, a number and a number of rows it prints what that word does
 With the word `ta` and a script it prints what that word does in the current folder.
 
     python3 checks/runs.py ta examples/films/threshold.sql
+
+With the word `view` and a script it does the same, and tells how many calls it makes, and how many of these are of an index.
+
+    python3 checks/runs.py view examples/offers/board.sql
 """
 
 import csv
@@ -38,6 +42,7 @@ from threshold import Scan, by_score, key
 STATUSES = ["Done", "Memory", "Usage", "Read", "Write", "Script", "Table", "BadScore", "Probe", "Session"]
 
 MOST_CURSORS = 64
+MOST_KEPT = 10  # of a view of a query without LIMIT
 MOST_TABLES = 16
 MOST_PREDICATES = 64
 MOST_COLUMNS = 64
@@ -515,6 +520,68 @@ class Scans(Run):
         return all(key in query.indexes for key in keys)
 
 
+class View:
+    """A view of a query. Each growth evaluates the query from scratch; of its calls it makes those for rows that have a new row."""
+
+    def __init__(self, words):
+        self.words, self.start, self.old, self.rows = words, words.at, None, []
+
+    def grow(self, run):
+        self.words.at = self.start
+        query = read_query(self.words, run)
+        old = self.old or [0] * len(query.tables)
+        for rows in query.combinations(query.all):
+            if any(row > seen for row, seen in zip(rows, old)):
+                for term in sorted(query.every):
+                    run.check(*query.told_call(rows, term))
+        most = MOST_KEPT if query.limit is None else query.limit
+        self.rows = [(query.score(rows), query.outputs(rows)) for rows in query.answer[:most]]
+        self.old = [len(table.rows) for table in query.tables]
+
+
+class Views(Run):
+    """A run of the word `view`: its queries are kept as views, which grow as rows join."""
+
+    def __init__(self, files, scores, fails):
+        super().__init__(files, scores, fails, None)
+        self.number = 0
+
+    def statement(self, words, place):
+        self.number += 1
+        if words.skip("FETCH"):
+            count = int(words.take())
+            words.want("FROM")
+            view = self.cursors[self.open_cursor(words)]
+            for rank, (score, outputs) in enumerate(view.rows[:count], 1):
+                self.write(line_of([rank, score, *outputs]))
+        elif words.next() in ("CREATE", "INSERT", "DECLARE", "CLOSE"):
+            super().statement(words, place)
+        else:
+            self.refuse()
+
+    def refuse(self):
+        raise Ended("Script", f"script: view NotEligible statement {self.number}")
+
+    def declare(self, words):
+        name = words.take()
+        words.want("CURSOR", "FOR")
+        view = View(words)
+        query = read_query(words, self)
+        if not isinstance(query, Block) or query.distinct:
+            self.refuse()
+        if name in self.cursors:
+            raise Ended("Session", f"session: NameTaken {name}")
+        if len(self.cursors) == MOST_CURSORS:
+            raise Ended("Session", f"session: Full {name}")
+        view.grow(self)
+        self.cursors[name] = view
+
+    def insert(self, words, place):
+        super().insert(words, place)
+        for view in self.cursors.values():
+            view.grow(self)
+
+
 def records(text):
     """The records of a file, whose mark in front is left out, without its blank lines. Quotes within a field aren't read here."""
     if re.search('[^,"\r\n]"[^,"\r\n]', text):
@@ -610,12 +677,12 @@ def main():
             scores, fails = {}, {}
 
 
-READ = "ta NotEligible statement|NotUtf8|lex NumberTooWide|lex TooManyTokens|parse TooManyStatements|parse TooDeep|catalogue Full"
+READ = "(?:ta|view) NotEligible statement|NotUtf8|lex NumberTooWide|lex TooManyTokens|parse TooManyStatements|parse TooDeep|catalogue Full"
 
 
 def can_be_read(words, old, files):
     """Whether a run of these words can be read, which ended so. Of scripts that are refused, only those can that pass a limit or whose INSERT is."""
-    if not re.fullmatch(r"top \S+ \S+ \d+ \d+|(plain|ta) \S+|(run|guess) \S+ \d+|gen \d+ \d+|(feed|cert) \S+ \S+ \d+|check \S+", words) or "  Usage" in old:
+    if not re.fullmatch(r"top \S+ \S+ \d+ \d+|(plain|ta|view) \S+|(run|guess) \S+ \d+|gen \d+ \d+|(feed|cert) \S+ \S+ \d+|check \S+", words) or "  Usage" in old:
         return False
     if words.startswith(("top ", "feed ", "cert ", "check ")) or not set(old) & {"  Script", "  Table"}:
         return True
@@ -636,6 +703,9 @@ def told(words, files, scores, fails):
         return run.told(run.script, "gen.sql")
     if word == "ta":
         run = Scans(files, scores, fails)
+        return run.told(run.script, rest[0])
+    if word == "view":
+        run = Views(files, scores, fails)
         return run.told(run.script, rest[0])
     if word == "feed":
         run = Run(files, scores, fails, None)
@@ -680,6 +750,11 @@ if __name__ == "__main__":
         scans = Scans(Folder(), {}, {})
         scans.script(sys.argv[2])
         print(scans.put, end="")
+    elif len(sys.argv) == 3 and sys.argv[1] == "view":
+        views = Views(Folder(), {}, {})
+        status, *_ = views.told(views.script, sys.argv[2])
+        print(views.put, end="")
+        print(f"{status.strip()}; calls {len(views.made)}: indexes {views.indexed}")
     elif len(sys.argv) == 3:
         tell(sys.argv[1], int(sys.argv[2]))
     else:

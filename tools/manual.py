@@ -133,6 +133,8 @@ def examples():
         ".SS gen", "Tables of one row, made from the number 0", *example(["$ ranksql gen 0 1", *blocks(generated)[-1]]),
         ".SS ta", "The best film and the ten best; examples/films/threshold.sql makes the table and its two indexes",
         *example(["$ ranksql ta examples/films/threshold.sql", *scanned]),
+        ".SS view", "A board of offers that stays up to date, at the top of the repository",
+        *example(["$ ranksql view examples/offers/board.sql", *read("examples/offers/board.out").splitlines()]),
         ".SS feed", "The five best districts for a dinner and a bed, at the top of the repository",
         *example(["$ ranksql feed examples/feeds/restaurants.csv examples/feeds/hotels.csv 5", *read("examples/feeds/best.out").splitlines()]),
     ]

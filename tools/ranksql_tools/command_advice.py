@@ -12,8 +12,9 @@ FORMS = {
     "feed": "ranksql feed LEFT RIGHT K",
     "cert": "ranksql cert LEFT RIGHT K",
     "check": "ranksql check FILE",
+    "view": "ranksql view SCRIPT",
 }
-WORDS = {"top": 5, "run": 3, "plain": 2, "gen": 3, "ta": 2, "feed": 4, "cert": 4, "check": 2}
+WORDS = {"top": 5, "run": 3, "plain": 2, "gen": 3, "ta": 2, "feed": 4, "cert": 4, "check": 2, "view": 2}
 
 
 def of_usage(words):
@@ -60,6 +61,7 @@ def of_numbers(word, words):
         "feed": [(3, "K", 0, 1_000_000)],
         "cert": [(3, "K", 0, 1_000_000)],
         "check": [],
+        "view": [],
     }
     for place, name, least, most in ranges[word]:
         text = words[place]
@@ -80,8 +82,13 @@ def of_session(fault):
     return "64 cursors are open, and no more can be. Close some first, by CLOSE name;."
 
 
-def of_ineligible():
-    """What to do about a statement that `ta` doesn't take."""
+def of_ineligible(fault):
+    """What to do about a statement that a word doesn't take."""
+    if fault.name == "view":
+        return (
+            "`view` takes CREATE TABLE, CREATE PREDICATE, CREATE RANK INDEX, INSERT, FETCH, CLOSE, and DECLARE of a query of one SELECT without"
+            " DISTINCT. `run SCRIPT SEED` takes all statements."
+        )
     return (
         "`ta` takes CREATE TABLE, CREATE PREDICATE, CREATE RANK INDEX, INSERT, and queries of one SELECT without DISTINCT over one table, where each"
         " predicate of ORDER BY has a rank index with the same arguments. `run SCRIPT SEED` takes all statements."

@@ -56,7 +56,7 @@ def explanation(line, words, body):
     if fault.kind == "session":
         return [*session_lines(fault, body), command_advice.of_session(fault)]
     if fault.kind == "ineligible":
-        return [*ineligible_lines(fault, body), command_advice.of_ineligible()]
+        return [*ineligible_lines(fault, body), command_advice.of_ineligible(fault)]
     if fault.kind == "script":
         if body is None:
             return []
@@ -83,7 +83,7 @@ def of_data(fault, words, body):
     elif fault.kind == "table":
         token, lines, says = data_advice.of_table(fault, parser)
     else:
-        script = words[1] if words[:1] in (["run"], ["plain"], ["ta"]) and len(words) > 1 else None
+        script = words[1] if words[:1] in (["run"], ["plain"], ["ta"], ["view"]) and len(words) > 1 else None
         token, says = data_advice.of_read(fault, parser, script)
     shown = with_caret(body, token.start) if body is not None and token is not None else []
     return [*shown, *lines, says]

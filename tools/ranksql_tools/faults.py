@@ -4,7 +4,7 @@ import re
 from typing import NamedTuple
 
 SCRIPT = re.compile(r"script: (?:(lex|parse|bind|catalogue) )?(\w+) at (\d+)")
-INELIGIBLE = re.compile(r"script: (ta) NotEligible statement (\d+)")
+INELIGIBLE = re.compile(r"script: (ta|view) NotEligible statement (\d+)")
 SCORE = re.compile(r"score: (.*) rows((?: \d+)+): (-?\d+) is not in 0\.\.(\d+)")
 TABLE = re.compile(
     r"table: (.*): (NoHeader|NoColumn|TooManyRows|TooManyColumns found \d+|HeaderDiffers column \d+"

@@ -7,6 +7,7 @@ ghost use Rattle.rs_syntax.specs.Written.{AreWritten, IsWritten};
 
 use crate::queries::{tell_combinations, tell_plain};
 use crate::show::{show_count, show_index, show_predicate, show_query, show_rows, show_table};
+use crate::views::tell_view;
 use cases_lines::{Fault, count_of, cut_word, number_of, text_of};
 use cases_scripts::{make, statements_of};
 use rs_bind::{bind, bind_count, bind_index, bind_insert, bind_predicate, bind_table};
@@ -56,6 +57,16 @@ pub fn tell_failing(alloc: Global, catalog: &Catalog, words: &[u8]) -> Result<St
 pub fn tell_fresh(alloc: Global, catalog: &Catalog, words: &[u8]) -> Result<String, Fault> {
     let (number, script) = cut_word(words);
     tell_query(alloc, catalog, Asked::Rows(count_of(number)?), script)
+}
+
+/// A view of a query, which grows behind each INSERT that comes then: `NUMBER STATEMENTS`. The call of this number fails.
+pub fn tell_kept(alloc: Global, catalog: &mut Catalog, words: &[u8]) -> Result<String, Fault> {
+    let (number, script) = cut_word(words);
+    let failing = number_of(number)?;
+    let statements = statements_of(alloc, &text_of(alloc, script)?)?;
+    let told = tell_view(alloc, catalog, &statements, failing);
+    drop(statements);
+    told
 }
 
 /// Binds the query that is the only statement of a script, and tells what is asked of it.

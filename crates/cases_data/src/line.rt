@@ -1,6 +1,8 @@
 //! What the lines ask for.
 
-use crate::bound::{Asked, tell_bound, tell_failing, tell_fresh, tell_joined, tell_query};
+use crate::bound::{
+    Asked, tell_bound, tell_failing, tell_fresh, tell_joined, tell_kept, tell_query,
+};
 use crate::catalogue::{
     add_predicate, add_table, tell_index, tell_predicate, tell_room, tell_table, write_score,
 };
@@ -135,6 +137,7 @@ impl Cases for Data {
             b"fresh" => tell_fresh(alloc, &self.made, rest),
             b"plain" => tell_query(alloc, &self.made, Asked::Answers(0), rest),
             b"failing" => tell_failing(alloc, &self.made, rest),
+            b"view" => tell_kept(alloc, &mut self.made, rest),
             _ => self.line_told(alloc, word, rest),
         }
     }

@@ -46,6 +46,8 @@
 //!   of its table.
 //! - `plain QUERY`: its answers or the fault that stops it, and the calls of the scorer. An answer is its block, its mask,
 //!   its rows, its score and its values. `failing N QUERY`: the same, where the Nth call fails.
+//! - `view N STATEMENTS`: the first one is a query, of which a view is made; then each INSERT joins its table, and the view grows.
+//!   The rows of the view, or the fault, each time, and then the calls, of which the Nth fails.
 //! - a comment that begins with `#`, or nothing.
 //!
 //! A key is `BOUND:BLOCK:MASK:ROW.ROW..`, and an answer `SCORE:BLOCK:MASK:ROW.ROW..:VALUE,VALUE..`. A value is a number, or
@@ -66,6 +68,7 @@ mod ranks;
 mod scans;
 mod show;
 mod sizes;
+mod views;
 
 use cases_lines::{answer_lines, no_memory};
 use laws::{laws_hold_of_keys, laws_hold_of_numbers, laws_hold_of_pairs};

@@ -82,7 +82,7 @@ fn tell_answers(alloc: Global, answers: &[Answer]) -> Result<String, AllocError>
 }
 
 /// The block, the mask and the rows of an answer, its score and its values.
-fn tell_answer(answer: &Answer, told: &mut String) -> Result<(), AllocError> {
+pub fn tell_answer(answer: &Answer, told: &mut String) -> Result<(), AllocError> {
     let block = answer.ids.block;
     let mask = answer.ids.mask;
     let rows = answer.ids.rows;
@@ -92,7 +92,7 @@ fn tell_answer(answer: &Answer, told: &mut String) -> Result<(), AllocError> {
 }
 
 /// Tells the calls of a scorer.
-fn tell_calls(calls: &[Call], told: &mut String) -> Result<(), Memory> {
+pub fn tell_calls(calls: &[Call], told: &mut String) -> Result<(), Memory> {
     let mut between = "; calls ";
     for call in calls {
         told.push_str(between)?;

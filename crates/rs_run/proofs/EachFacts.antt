@@ -41,15 +41,17 @@ use Rattle.rs_run.specs.Running.{IsFormRun, IsRun, IsRunOf, OfForm}
 use Rattle.rs_run.specs.Threshold.{DoesByScan, DoesNext, ScanState, ScansRun, counted_step, first_statement, scanned_step}
 use Rattle.rs_run.specs.Told.{told_step}
 use Rattle.rs_run.specs.Top.{top_lines}
+use Rattle.rs_run.specs.Viewing as viewing
+use Rattle.rs_run.specs.Viewing.{DoesByViews, DoesKept, DoesNextByViews, Kept, ViewState, ViewsRun, beside_views, declared_step, first_view_statement, joined_step, numbered_step}
 use Rattle.rs_words.specs.Certifying.{joined_cert_run}
 use Rattle.rs_words.specs.Feeding.{pairs_run}
 use Rattle.rs_words.proofs.CheckedFacts.{some-check_run}
 use Rattle.rs_words.proofs.RunFacts.{some-words_run}
 use Rattle.rs_run.specs.FeedTold.{word_fault}
-use Rattle.rs_run.specs.Words.{Certify, Check, Feed, Form, RunGenerated, RunScript, Threshold, Top, form_of}
+use Rattle.rs_run.specs.Words.{Certify, Check, Feed, Form, RunGenerated, RunScript, Threshold, Top, Views, form_of}
 use Rattle.rs_run.specs.declared.fault.RunFault.{RunFault}
 use Rattle.rs_run.specs.declared.fault.RunFault.TheVariants.{NotEligible, Statement, Usage}
-use Rattle.rs_run.specs.declared.fault.ScriptWord.TheVariants.{Ta}
+use Rattle.rs_run.specs.declared.fault.ScriptWord.TheVariants.{Ta, View}
 
 -- a fetch finds something under each name, a file or none
 abbrev pub HasFiles : Finds → Type 0
@@ -168,6 +170,39 @@ module _ (finds : Finds) (has : HasFiles finds) (answer : Answering) where
   pub each_scans : (commands : List Command) → (run : WordsRun) × ScansRun finds answer commands run
   each_scans commands = some-run (DoesNext finds answer) each_next first_statement commands
 
+-- the statements of a script whose queries are kept as views
+module _ (finds : Finds) (has : HasFiles finds) (answer : Answering) where
+  -- one that is none of the word's own is told as one of words
+  kept-told : (kept : Kept) (command : Command) → (own : Step Kept) × DoesKept finds answer kept command own
+      → (step : events_in.Step RunFault Kept) × ((made : Step Kept) × DoesKept finds answer kept command made × (step ≡ told_step Statement made))
+  kept-told kept command own = (told_step Statement own.0, (own.0, own.1, refl))
+
+  each_by_views : (number : ℕ) (kept : Kept) (command : Command) → (step : events_in.Step RunFault Kept) × DoesByViews finds answer number kept command step
+  each_by_views number kept (CreateTable name columns file) =
+      let own = table finds has answer Plainly kept.catalogue name file (with_room kept.catalogue what.Table name (columns_of columns)) in
+      kept-told kept (CreateTable name columns file) (beside_views kept.views own.0, (own.0, own.1, refl))
+  each_by_views number kept (CreatePredicate name params max cost formula) =
+      let own = still (predicate_outcome kept.catalogue name (CreatePredicate name params max cost formula)) in
+      kept-told kept (CreatePredicate name params max cost formula) (beside_views kept.views own, (own, refl, refl))
+  each_by_views number kept (CreateRankIndex name table predicate args at) =
+      let own = refused_or (index_step answer kept.catalogue) (with_room kept.catalogue what.Index name (index_def_of kept.catalogue (CreateRankIndex name table predicate args at))) in
+      kept-told kept (CreateRankIndex name table predicate args at) (beside_views kept.views own, (own, refl, refl))
+  each_by_views number kept (Insert name rows) =
+      let own = refused_or (insert_step answer kept.catalogue) (or_bind_fault (insert_of kept.catalogue (Insert name rows))) in
+      kept-told kept (Insert name rows) (joined_step answer kept.views own, (own, refl, refl))
+  each_by_views number kept (syntax.Fetch count name) = kept-told kept (syntax.Fetch count name) (viewing.fetch_step kept count name, refl)
+  each_by_views number kept (Close name) = kept-told kept (Close name) (still (viewing.close_outcome kept name), refl)
+  each_by_views number kept (Declare name query) = (declared_step answer number kept name query, refl)
+  each_by_views number kept (Ask query) = (still (Err (NotEligible View number)), refl)
+  each_by_views number kept (Explain query) = (still (Err (NotEligible View number)), refl)
+  each_by_views number kept (ExplainAnalyze query) = (still (Err (NotEligible View number)), refl)
+
+  pub each_next_by_views : (state : ViewState) (command : Command) → (step : events_in.Step RunFault ViewState) × DoesNextByViews finds answer state command step
+  each_next_by_views state command = let own = each_by_views state.number state.kept command in (numbered_step state.number own.0, (own.0, own.1, refl))
+
+  pub each_views : (commands : List Command) → (run : WordsRun) × ViewsRun finds answer commands run
+  each_views commands = some-run (DoesNextByViews finds answer) each_next_by_views first_view_statement commands
+
 -- and so have the generated scripts
 pub each_generated : (finds : Finds) (answer : Answering) (number rows : ℕ) → (run : Run) × IsRunOf finds answer (RunGenerated number rows) run
 each_generated finds answer number rows =
@@ -194,6 +229,10 @@ each_form finds has answer (Threshold name) =
 each_form finds has answer (Feed words) = let run = some-words_run pairs_run finds has words in (with_fault (word_fault words.left words.right) run.0, (run.0, run.1, refl))
 each_form finds has answer (Certify words) = let run = some-words_run joined_cert_run finds has words in (with_fault (word_fault words.left words.right) run.0, (run.0, run.1, refl))
 each_form finds has answer (Check file) = let run = some-check_run finds has file in (with_fault (word_fault file file) run.0, (run.0, run.1, refl))
+each_form finds has answer (Views name) =
+    let there = has name in
+    let run = script-has_run Statement (ViewsRun finds answer) (each_views finds has answer) finds name there.0 there.1 in
+    (run.0, run.2)
 
 pub words-have_run : (finds : Finds) → HasFiles finds → (answer : Answering) (words : List (List ℕ)) → (run : WordsRun) × IsRun finds answer words run
 words-have_run finds has answer words = go (form_of words)

@@ -14,3 +14,7 @@ pub mod OutcomeFacts
 pub mod OneRun
 pub mod SameScripts
 pub mod LaterFacts
+pub mod HeldFacts
+pub mod GrowthSteps
+pub mod ViewSteps
+pub mod WorkedViews

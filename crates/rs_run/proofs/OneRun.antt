@@ -17,7 +17,7 @@ use Rattle.rs_words.specs.Feeding.{pairs_run}
 use Rattle.rs_words.proofs.CheckedFacts.{IsCheckRun-one}
 use Rattle.rs_words.proofs.RunFacts.{one-run}
 use Rattle.rs_run.specs.FeedTold.{word_fault}
-use Rattle.rs_run.specs.Words.{Certify, Check, Feed, Form, RunGenerated, RunScript, Threshold, Top, form_of}
+use Rattle.rs_run.specs.Words.{Certify, Check, Feed, Form, RunGenerated, RunScript, Threshold, Top, Views, form_of}
 use Rattle.rs_run.specs.Top.{top_lines}
 use Rattle.rs_run.specs.Plain.{HasTokens, HasStatements, ScriptRuns, TextRuns, as_it_is, unlexed, unparsed, runs, unread, read, source_of}
 use Rattle.rs_expr.specs.Scoring.{Answering}
@@ -34,6 +34,7 @@ use Rattle.rs_run.specs.Generated.{finds_generated, unfetched}
 use Rattle.rs_run.specs.Running.{IsFormRun, IsRun, IsRunOf, OfForm}
 use Rattle.rs_run.specs.Threshold.{DoesByScan, DoesNext, ScanState, ScansRun, counted_step, first_statement}
 use Rattle.rs_run.specs.Told.{told_step}
+use Rattle.rs_run.specs.Viewing.{DoesByViews, DoesKept, DoesNextByViews, Kept, ViewState, ViewsRun, beside_views, first_view_statement, joined_step, numbered_step}
 use Rattle.rs_run.specs.declared.fault.RunFault.{RunFault}
 use Rattle.rs_run.specs.Faults.{WordsRun}
 use Rattle.rs_run.specs.declared.fault.RunFault.TheVariants.{Statement}
@@ -106,6 +107,7 @@ IsRunOf-one finds one answer (Threshold name) run other p q = absurd p
 IsRunOf-one finds one answer (Feed words) run other p q = absurd p
 IsRunOf-one finds one answer (Certify words) run other p q = absurd p
 IsRunOf-one finds one answer (Check file) run other p q = absurd p
+IsRunOf-one finds one answer (Views name) run other p q = absurd p
 
 -- a statement does one thing at most where queries are answered by scans
 DoesByScan-one : (finds : Finds) → OneFile finds → (answer : Answering) (number : ℕ) (catalogue : CatalogDef) (command : Command) (a b : Step RunFault CatalogDef)
@@ -132,6 +134,51 @@ DoesNext-one : (finds : Finds) → OneFile finds → (answer : Answering) (state
 DoesNext-one finds one answer state command a b p q =
     p.2 ∙ ap (counted_step state.number) (DoesByScan-one finds one answer state.number state.catalogue command p.0 q.0 p.1 q.1) ∙ sym q.2
 
+-- and where they are kept as views
+DoesKept-one : (finds : Finds) → OneFile finds → (answer : Answering) (kept : Kept) (command : Command) (a b : statement.Step Kept)
+    → DoesKept finds answer kept command a → DoesKept finds answer kept command b → a ≡ b
+DoesKept-one finds one answer kept command a b p q = go command p q where
+  same : (command : Command) (leaves : statement.Step CatalogDef → statement.Step Kept)
+      → (own : statement.Step CatalogDef) × Does finds answer Plainly kept.catalogue command own × (a ≡ leaves own)
+      → (own : statement.Step CatalogDef) × Does finds answer Plainly kept.catalogue command own × (b ≡ leaves own) → a ≡ b
+  same command leaves p q = p.2 ∙ ap leaves (Does-one finds one answer Plainly kept.catalogue command p.0 q.0 p.1 q.1) ∙ sym q.2
+
+  go : (command : Command) → DoesKept finds answer kept command a → DoesKept finds answer kept command b → a ≡ b
+  go (CreateTable name columns file) p q = same (CreateTable name columns file) (beside_views kept.views) p q
+  go (CreatePredicate name params max cost formula) p q = same (CreatePredicate name params max cost formula) (beside_views kept.views) p q
+  go (CreateRankIndex name table predicate args at) p q = same (CreateRankIndex name table predicate args at) (beside_views kept.views) p q
+  go (Insert table rows) p q = same (Insert table rows) (joined_step answer kept.views) p q
+  go (syntax.Fetch count name) p q = p ∙ sym q
+  go (Close name) p q = p ∙ sym q
+  go (Declare name query) p q = absurd p.1
+  go (Ask query) p q = same (Ask query) (beside_views kept.views) p q
+  go (Explain query) p q = same (Explain query) (beside_views kept.views) p q
+  go (ExplainAnalyze query) p q = same (ExplainAnalyze query) (beside_views kept.views) p q
+
+DoesByViews-one : (finds : Finds) → OneFile finds → (answer : Answering) (number : ℕ) (kept : Kept) (command : Command) (a b : Step RunFault Kept)
+    → DoesByViews finds answer number kept command a → DoesByViews finds answer number kept command b → a ≡ b
+DoesByViews-one finds one answer number kept command a b p q = go command p q where
+  same : (command : Command) → (own : statement.Step Kept) × DoesKept finds answer kept command own × (a ≡ told_step Statement own)
+      → (own : statement.Step Kept) × DoesKept finds answer kept command own × (b ≡ told_step Statement own) → a ≡ b
+  same command p q = p.2 ∙ ap (told_step Statement) (DoesKept-one finds one answer kept command p.0 q.0 p.1 q.1) ∙ sym q.2
+
+  go : (command : Command) → DoesByViews finds answer number kept command a → DoesByViews finds answer number kept command b → a ≡ b
+  go (CreateTable name columns file) p q = same (CreateTable name columns file) p q
+  go (CreatePredicate name params max cost formula) p q = same (CreatePredicate name params max cost formula) p q
+  go (CreateRankIndex name table predicate args at) p q = same (CreateRankIndex name table predicate args at) p q
+  go (Insert table rows) p q = same (Insert table rows) p q
+  go (syntax.Fetch count name) p q = same (syntax.Fetch count name) p q
+  go (Close name) p q = same (Close name) p q
+  go (Declare name query) p q = p ∙ sym q
+  go (Ask query) p q = p ∙ sym q
+  go (Explain query) p q = p ∙ sym q
+  go (ExplainAnalyze query) p q = p ∙ sym q
+
+DoesNextByViews-one : (finds : Finds) → OneFile finds → (answer : Answering) (state : ViewState) (command : Command) (a b : Step RunFault ViewState)
+    → DoesNextByViews finds answer state command a → DoesNextByViews finds answer state command b → a ≡ b
+DoesNextByViews-one finds one answer state command a b p q =
+    p.2 ∙ ap (numbered_step state.number) (DoesByViews-one finds one answer state.number state.kept command p.0 q.0 p.1 q.1) ∙ sym q.2
+
 -- so words of a form have one run at most
 IsFormRun-one : (finds : Finds) → OneFile finds → (answer : Answering) (form : Form) (run other : WordsRun) → IsFormRun finds answer form run → IsFormRun finds answer form other → run ≡ other
 IsFormRun-one finds one answer form run other p q = go form p q where
@@ -150,6 +197,10 @@ IsFormRun-one finds one answer form run other p q = go form p q where
   go (Feed words) p q = p.2 ∙ ap (with_fault (word_fault words.left words.right)) (one-run pairs_run finds one words p.0 q.0 p.1 q.1) ∙ sym q.2
   go (Certify words) p q = p.2 ∙ ap (with_fault (word_fault words.left words.right)) (one-run joined_cert_run finds one words p.0 q.0 p.1 q.1) ∙ sym q.2
   go (Check file) p q = p.2 ∙ ap (with_fault (word_fault file file)) (IsCheckRun-one finds one file p.0 q.0 p.1 q.1) ∙ sym q.2
+  go (Views name) p q =
+      ScriptRuns-one Statement (ViewsRun finds answer)
+      (λ commands a b p q. RunOf-one (DoesNextByViews finds answer) (λ state command a b p q. DoesNextByViews-one finds one answer state command a b p q) first_view_statement commands a b p q)
+      finds one name run other p q
 
 pub IsRun-one : (finds : Finds) → OneFile finds → (answer : Answering) (words : List (List ℕ)) (run other : WordsRun) → IsRun finds answer words run → IsRun finds answer words other → run ≡ other
 IsRun-one finds one answer words run other = go (form_of words) where

@@ -1,6 +1,18 @@
 -- The faults that the definition of a run can end with: never that a put failed or a call of the scorer, and Usage only where the words are of no form.
-use Rattle.std.proofs.Common.{ℕ, ◌≡◌, List, [], ◌∷◌, Some, None, refl, sym, subst}
-use Rattle.std.specs.Prelude.{Option, option_map, Result, Ok, Err, unwrap_or}
+use Rattle.std.proofs.Common.{ℕ, ℤ, ◌≡◌, Bool, true, false, List, [], ◌∷◌, map, take, Some, None, refl, sym, subst}
+use Rattle.std.specs.Prelude.{Option, option_map, Result, Ok, Err, unwrap_or, if◌then◌else◌}
+use Rattle.std.specs.List.{flat_map}
+use Rattle.std.specs.Str.{bytes_eq}
+use Rattle.rs_lex.specs.declared.token.Span.{Span}
+use Rattle.rs_syntax.specs.declared.name.Name.{Name}
+use Rattle.rs_catalog.specs.Catalog.{room_in}
+use Rattle.rs_catalog.specs.declared.room.RoomFault.{RoomFault}
+use Rattle.rs_query.specs.Questions.{Question, asking, bad_score, first_of, is_bad, outcome_for}
+use Rattle.rs_query.specs.Views.{all_rows}
+use Rattle.rs_query.specs.declared.query.Query.TheVariants.{One, Set}
+use Rattle.rs_plain.specs.Plain.{plain_faults, questions_of}
+use Rattle.rs_plain.specs.declared.fault.PlainFault.{PlainFault}
+use Rattle.rs_view.specs.Fresh.{whole_view}
 use Rattle.rs_value.specs.Text.{text_of}
 use Rattle.rs_value.specs.declared.text.TextFault.{TextFault}
 use Rattle.rs_value.specs.declared.text.TextFault.TheVariants as text
@@ -14,7 +26,7 @@ use Rattle.rs_words.proofs.FaultFacts.{EndsByNoPut, cert-no_put, check-no_put, f
 use Rattle.rs_run.specs.FeedTold.{word_fault}
 use Rattle.rs_run.specs.declared.fault.RunFault.TheVariants.{CertForm, CertTooLong, NotEligible, Order, Statement, Usage}
 use Rattle.rs_run.specs.Faults.{WordsRun}
-use Rattle.rs_run.specs.Words.{Certify, Check, Feed, Form, RunGenerated, RunScript, Threshold, Top, TopWords}
+use Rattle.rs_run.specs.Words.{Certify, Check, Feed, Form, RunGenerated, RunScript, Threshold, Top, TopWords, Views}
 use Rattle.rs_statement.specs.Content.{content_of, or_table_fault, table_limit}
 use Rattle.rs_run.specs.Top.{best_rows, named_table, number_at, ranked_lines, scored_rows, top_lines, top_table}
 use Rattle.rs_run.specs.Plain.{ScriptRuns, TextRuns, as_it_is, unlexed, unparsed, runs, unread, read, or_text_fault, script_limit, source_of, without_mark}
@@ -26,27 +38,30 @@ use Rattle.rs_run.specs.Generated.{finds_generated}
 use Rattle.rs_run.specs.Running.{IsFormRun, IsRunOf, OfForm}
 use Rattle.rs_run.specs.Threshold.{DoesByScan, DoesNext, ScanState, ScansRun, counted_step, first_statement, scan_for, scan_of, scan_step, scanned_or, scanned_step}
 use Rattle.rs_run.specs.Told.{told_result, told_step}
-use Rattle.rs_run.specs.declared.fault.ScriptWord.TheVariants.{Ta}
+use Rattle.rs_run.specs.Parts.Holding.{IsKept}
+use Rattle.rs_run.specs.Viewing as viewing
+use Rattle.rs_run.specs.Viewing.{DoesByViews, DoesKept, DoesNextByViews, HeldView, Kept, ViewState, ViewsRun, beside_views, declared_step, fetched_rows, first_view_statement, grown_outcome, grown_view, growth_questions, joined_step, made_outcome, made_step, named_step, numbered_step, room_for_view, view_named, viewed_or, viewed_step, without_view}
+use Rattle.rs_run.specs.declared.fault.ScriptWord.TheVariants.{Ta, View}
 use Rattle.rs_value.specs.Results.{◌>>=◌}
 use Rattle.rs_syntax.specs.Syntax.{Ask, Close, Command, CreatePredicate, CreateRankIndex, CreateTable, Declare, Explain, ExplainAnalyze, Insert}
 use Rattle.rs_syntax.specs.Syntax as syntax
 use Rattle.rs_catalog.specs.Catalog.{CatalogDef}
-use Rattle.rs_bind.specs.Queries.{bound_query}
+use Rattle.rs_bind.specs.Queries.{bound_query, count_of}
 use Rattle.rs_typing.specs.declared.fault.BindFault.{BindFault}
 use Rattle.rs_typing.specs.declared.fault.BindFault.TheVariants as bind
 use Rattle.rs_query.specs.declared.query.Query.{Query}
 use Rattle.rs_ta.specs.Depths.{ScanInput}
 use Rattle.rs_events.specs.Events.{Event}
-use Rattle.rs_events.specs.Sequence.{RunOf, RunsOn, Step, still}
+use Rattle.rs_events.specs.Sequence.{RunOf, RunsOn, Step, lines_step, still}
 use Rattle.rs_statement.specs.Parts.Session.{IsOfNoCursor}
-use Rattle.rs_statement.specs.Statements.{Does, or_bind_fault}
+use Rattle.rs_statement.specs.Statements.{Does, or_bind_fault, query_fault, refused_or}
 use Rattle.rs_statement.specs.Steps as statement
 use Rattle.rs_statement.specs.Faults.{or_index_fault}
 use Rattle.rs_statement.specs.Lines.{rank_lines}
 use Rattle.rs_statement.specs.declared.evaluating.Evaluating.{Evaluating}
 use Rattle.rs_statement.specs.declared.evaluating.Evaluating.TheVariants.{Plainly, Planned}
 use Rattle.rs_statement.specs.declared.sampling.Sampling.TheVariants.{ByScores}
-use Rattle.rs_statement.specs.Session.{DoesInSession, State, StatementsRun, beside_cursors, nothing}
+use Rattle.rs_statement.specs.Session.{DoesInSession, State, StatementsRun, beside_cursors, most_cursors, nothing, or_session_fault}
 use Rattle.rs_statement.proofs.OwnFaults.{IsOwn, Own, OwnEnd, Own-content, Own-ranking, Own-statements, Own-table, Own-then, OwnRanking-scored}
 
 -- the text of a script
@@ -114,6 +129,7 @@ OwnEnd-form finds answer (Threshold name) run is = absurd is
 OwnEnd-form finds answer (Feed words) run is = absurd is
 OwnEnd-form finds answer (Certify words) run is = absurd is
 OwnEnd-form finds answer (Check file) run is = absurd is
+OwnEnd-form finds answer (Views name) run is = absurd is
 
 -- the faults of words that have some of their own: never Usage, and of those of statements the same ones
 unfoldable OwnTold : RunFault → Type 0
@@ -239,6 +255,152 @@ OwnOutcome-next finds answer state command step does =
       go (Ok catalogue) own = tt
       go (Err why) own = own
 
+-- the statements of a script whose queries are kept as views: what each step ends with
+Own-told : {A : Type 0} (outcome : Result A Fault) → Own outcome → OwnOutcome (told_result Statement outcome)
+unfolding Own OwnOutcome OwnTold
+Own-told (Ok a) own = tt
+Own-told (Err fault) own = own
+
+Own-untold : {A : Type 0} (outcome : Result A Fault) → OwnOutcome (told_result Statement outcome) → Own outcome
+unfolding Own OwnOutcome OwnTold
+Own-untold (Ok a) own = tt
+Own-untold (Err fault) own = own
+
+Own-bind : {A : Type 0} (bound : Result A BindFault) → Own (or_bind_fault bound)
+unfolding Own IsOwn
+Own-bind (Ok a) = tt
+Own-bind (Err (bind.At why at)) = tt
+Own-bind (Err bind.Memory) = tt
+
+Own-refused : {A S : Type 0} (does : A → statement.Step S) (bound : Result A Fault) → Own bound → ((a : A) → Own (does a).outcome) → Own (refused_or does bound).outcome
+unfolding Own
+Own-refused does (Ok a) own each = each a
+Own-refused does (Err fault) own each = own
+
+-- questions in order end with a bad score, or well
+module _ {A B : Type 0} (catalogue : CatalogDef) (outcome : Result A PlainFault → Result B Fault) (good : (a : A) → Own (outcome (Ok a)))
+    (bad : (fault : PlainFault) → outcome (Err fault) ≡ Err (query_fault catalogue fault)) where
+  Own-asking : (answer : Answering) (questions : List Question) (value : A) → Own (outcome (asking plain_faults answer catalogue questions value).outcome)
+  unfolding Own IsOwn
+  Own-asking answer questions value = go (first_of (is_bad answer catalogue) questions) where
+    go : (first : Option Question) → Own (outcome (outcome_for plain_faults answer catalogue first value))
+    go None = good value
+    go (Some q) = subst Own (sym (bad (bad_score plain_faults answer catalogue q))) tt
+
+Own-made : (answer : Answering) (name : List ℕ) (kept : Kept) (query : Query) → Own (made_step answer name kept query).outcome
+unfolding Own
+Own-made answer name kept query =
+    Own-asking kept.catalogue (made_outcome name kept) (λ view. tt) (λ fault. refl) answer (questions_of kept.catalogue query (all_rows kept.catalogue query)) (whole_view answer kept.catalogue query)
+
+Own-room : (name : List ℕ) (room : Result (Unit {0}) RoomFault) → Own (or_session_fault name room)
+unfolding Own IsOwn
+Own-room name (Ok room) = tt
+Own-room name (Err why) = tt
+
+Own-named : (answer : Answering) (name : List ℕ) (kept : Kept) (query : Query) → Own (named_step answer name kept query).outcome
+Own-named answer name kept query =
+    Own-refused (λ room. made_step answer name kept query) (room_for_view name kept.views)
+    (Own-room name (room_in name most_cursors (map (λ (held : HeldView). held.0) kept.views))) (λ room. Own-made answer name kept query)
+
+OwnOutcome-viewed : (answer : Answering) (number : ℕ) (name : List ℕ) (kept : Kept) (query : Query) → OwnOutcome (viewed_step answer number name kept query).outcome
+unfolding OwnOutcome OwnTold
+OwnOutcome-viewed answer number name kept (One block limit) = go block.distinct where
+  go : (b : Bool) → OwnOutcome (if b then still (Err (NotEligible View number)) else told_step Statement (named_step answer name kept (One block limit))).outcome
+  go true = tt
+  go false = Own-told (named_step answer name kept (One block limit)).outcome (Own-named answer name kept (One block limit))
+OwnOutcome-viewed answer number name kept (Set op left right limit) = tt
+
+OwnOutcome-declared : (answer : Answering) (number : ℕ) (kept : Kept) (name : Name) (query : syntax.Query) → OwnOutcome (declared_step answer number kept name query).outcome
+unfolding OwnOutcome OwnTold IsOwn
+OwnOutcome-declared answer number kept name query = go (bound_query kept.catalogue query) where
+  go : (bound : Result Query BindFault) → OwnOutcome (viewed_or answer number name.text kept (or_bind_fault bound)).outcome
+  go (Ok bound) = OwnOutcome-viewed answer number name.text kept bound
+  go (Err (bind.At why at)) = tt
+  go (Err bind.Memory) = tt
+
+Own-view_named : (name : List ℕ) (views : List HeldView) → Own (view_named name views)
+unfolding Own IsOwn
+Own-view_named name [] = tt
+Own-view_named name (held ∷ views) = go (bytes_eq held.0 name) where
+  go : (b : Bool) → Own (if b then Ok held.1 else view_named name views)
+  go true = tt
+  go false = Own-view_named name views
+
+Own-fetched : (kept : Kept) (count : ℤ × Span) (name : Name) → Own (fetched_rows kept count name)
+unfolding Own
+Own-fetched kept count name =
+    Own-then (or_bind_fault (count_of count)) (λ wanted. view_named name.text kept.views >>= (λ view. Ok (take wanted view.rows))) (Own-bind (count_of count))
+    (λ wanted. Own-then (view_named name.text kept.views) (λ view. Ok (take wanted view.rows)) (Own-view_named name.text kept.views) (λ view. tt))
+
+Own-joined : (answer : Answering) (views : List HeldView) (own : statement.Step CatalogDef) → Own own.outcome → Own (joined_step answer views own).outcome
+unfolding Own
+Own-joined answer views own is = go own.outcome is where
+  go : (outcome : Result CatalogDef Fault) → Own outcome → Own (joined_step answer views (record { events = own.events; outcome = outcome })).outcome
+  go (Ok catalogue) is =
+      Own-asking catalogue (grown_outcome catalogue) (λ views. tt) (λ fault. refl) answer (flat_map (growth_questions catalogue) views) (map (grown_view answer catalogue) views)
+  go (Err fault) is = is
+
+Own-kept : (finds : Finds) (answer : Answering) (kept : Kept) (command : Command) (step : statement.Step Kept) → IsKept command → DoesKept finds answer kept command step → Own step.outcome
+unfolding Own
+Own-kept finds answer kept command step is does = go command is does where
+  alone : (command : Command) → IsOfNoCursor command → (own : statement.Step CatalogDef) → Does finds answer Plainly kept.catalogue command own → Own own.outcome
+  alone command of own does = Own-untold own.outcome (Own-alone finds answer kept.catalogue command own of does)
+
+  same : (own : statement.Step Kept) → Own own.outcome → step ≡ own → Own step.outcome
+  same own is e = subst (λ (s : statement.Step Kept). Own s.outcome) (sym e) is
+
+  beside : (command : Command) → IsOfNoCursor command → (own : statement.Step CatalogDef) × Does finds answer Plainly kept.catalogue command own × (step ≡ beside_views kept.views own) → Own step.outcome
+  beside command of does =
+      same (beside_views kept.views does.0) (Own-then does.0.outcome (λ catalogue. Ok (record { catalogue = catalogue; views = kept.views })) (alone command of does.0 does.1) (λ catalogue. tt)) does.2
+
+  go : (command : Command) → IsKept command → DoesKept finds answer kept command step → Own step.outcome
+  go (CreateTable name columns file) is does = beside (CreateTable name columns file) tt does
+  go (CreatePredicate name params max cost formula) is does = beside (CreatePredicate name params max cost formula) tt does
+  go (CreateRankIndex name table predicate args at) is does = beside (CreateRankIndex name table predicate args at) tt does
+  go (Insert table rows) is does =
+      same (joined_step answer kept.views does.0) (Own-joined answer kept.views does.0 (alone (Insert table rows) tt does.0 does.1)) does.2
+  go (syntax.Fetch count name) is does =
+      same (viewing.fetch_step kept count name) (Own-refused (λ rows. lines_step (rank_lines 1 rows) kept) (fetched_rows kept count name) (Own-fetched kept count name) (λ rows. tt)) does
+  go (Close name) is does =
+      same (still (viewing.close_outcome kept name))
+      (Own-then (view_named name.text kept.views) (λ view. Ok (without_view name.text kept)) (Own-view_named name.text kept.views) (λ view. tt)) does
+  go (Declare name query) is does = absurd is
+  go (Ask query) is does = absurd is
+  go (Explain query) is does = absurd is
+  go (ExplainAnalyze query) is does = absurd is
+
+OwnOutcome-by_views : (finds : Finds) (answer : Answering) (number : ℕ) (kept : Kept) (command : Command) (step : Step RunFault Kept) → DoesByViews finds answer number kept command step
+    → OwnOutcome step.outcome
+unfolding OwnOutcome OwnTold
+OwnOutcome-by_views finds answer number kept command step = go command where
+  same : (own : Step RunFault Kept) → OwnOutcome own.outcome → step ≡ own → OwnOutcome step.outcome
+  same own is e = subst (λ (s : Step RunFault Kept). OwnOutcome s.outcome) (sym e) is
+
+  told : (command : Command) → IsKept command → (own : statement.Step Kept) × DoesKept finds answer kept command own × (step ≡ told_step Statement own) → OwnOutcome step.outcome
+  told command is does = same (told_step Statement does.0) (Own-told does.0.outcome (Own-kept finds answer kept command does.0 is does.1)) does.2
+
+  go : (command : Command) → DoesByViews finds answer number kept command step → OwnOutcome step.outcome
+  go (Declare name query) does = same (declared_step answer number kept name query) (OwnOutcome-declared answer number kept name query) does
+  go (Ask query) does = same (still (Err (NotEligible View number))) tt does
+  go (Explain query) does = same (still (Err (NotEligible View number))) tt does
+  go (ExplainAnalyze query) does = same (still (Err (NotEligible View number))) tt does
+  go (syntax.Fetch count name) does = told (syntax.Fetch count name) tt does
+  go (Close name) does = told (Close name) tt does
+  go (CreateTable name columns file) does = told (CreateTable name columns file) tt does
+  go (CreatePredicate name params max cost formula) does = told (CreatePredicate name params max cost formula) tt does
+  go (CreateRankIndex name table predicate args at) does = told (CreateRankIndex name table predicate args at) tt does
+  go (Insert table rows) does = told (Insert table rows) tt does
+
+OwnOutcome-next_view : (finds : Finds) (answer : Answering) (state : ViewState) (command : Command) (step : Step RunFault ViewState) → DoesNextByViews finds answer state command step
+    → OwnOutcome step.outcome
+unfolding OwnOutcome
+OwnOutcome-next_view finds answer state command step does =
+    subst (λ (s : Step RunFault ViewState). OwnOutcome s.outcome) (sym does.2)
+    (go does.0.outcome (OwnOutcome-by_views finds answer state.number state.kept command does.0 does.1)) where
+      go : (outcome : Result Kept RunFault) → OwnOutcome outcome → OwnOutcome (numbered_step state.number (record { events = does.0.events; outcome = outcome })).outcome
+      go (Ok kept) own = tt
+      go (Err why) own = own
+
 -- the faults of a run with a form
 OwnFault-told : (form : Form) (fault : Option RunFault) → OwnRun fault → OwnFault (Some form) fault
 unfolding OwnFault OwnRun OwnTold
@@ -274,6 +436,8 @@ form_fault finds answer form run is = go form is where
   go (RunGenerated number rows) is = statements (RunGenerated number rows) is
   go (Threshold name) is = OwnFault-told (Threshold name) run.fault
       (OwnRun-script finds (ScansRun finds answer) (λ commands run is. OwnRun-of (DoesNext finds answer) (OwnOutcome-next finds answer) first_statement commands run is) name run is)
+  go (Views name) is = OwnFault-told (Views name) run.fault
+      (OwnRun-script finds (ViewsRun finds answer) (λ commands run is. OwnRun-of (DoesNextByViews finds answer) (OwnOutcome-next_view finds answer) first_view_statement commands run is) name run is)
   go (Feed words) is = OwnFault-told (Feed words) run.fault
       (subst (λ (r : WordsRun). OwnRun r.fault) (sym is.2) (OwnRun-feed words.left words.right is.0.fault (feed-no_put finds words is.0 is.1)))
   go (Certify words) is = OwnFault-told (Certify words) run.fault

@@ -7,7 +7,7 @@ use Rattle.rs_value.specs.Number.{are_digits, decimal_value, number_of}
 use Rattle.rs_statement.specs.declared.evaluating.Evaluating.TheVariants.{Plainly, Planned}
 use Rattle.rs_statement.specs.declared.sampling.Sampling.TheVariants.{ByScores}
 use Rattle.rs_run.specs.Parts.CommandLine.{HasCertCount}
-use Rattle.rs_run.specs.Words.{Certify, Check, Feed, Form, RunGenerated, RunScript, Threshold, Top, at_least, cert_form, check_form, feed_form, first_some, form_of, gen_form, number_word, of_both, plain_form, run_form, ta_form, top_form}
+use Rattle.rs_run.specs.Words.{Certify, Check, Feed, Form, RunGenerated, RunScript, Threshold, Top, Views, at_least, cert_form, check_form, feed_form, first_some, form_of, gen_form, number_word, of_both, plain_form, run_form, ta_form, top_form, view_form}
 
 -- so many pairs are wanted, if a certificate is
 abbrev HasCount : Option Form → Type 0
@@ -58,15 +58,16 @@ cert-has left right None most = tt
 cert-has left right (Some n) most = most
 
 -- the words by their number
-of-two : (words : List (List ℕ)) → HasCount (plain_form words) × HasCount (ta_form words) × HasCount (check_form words)
-of-two [] = (tt, tt, tt)
-of-two (a ∷ []) = (tt, tt, tt)
+of-two : (words : List (List ℕ)) → HasCount (plain_form words) × HasCount (ta_form words) × HasCount (check_form words) × HasCount (view_form words)
+of-two [] = (tt, tt, tt, tt)
+of-two (a ∷ []) = (tt, tt, tt, tt)
 of-two (a ∷ b ∷ []) = (
   where-has (bytes_eq a (codes "plain")) (Some (RunScript b Plainly)) tt,
   where-has (bytes_eq a (codes "ta")) (Some (Threshold b)) tt,
   where-has (bytes_eq a (codes "check")) (Some (Check b)) tt,
+  where-has (bytes_eq a (codes "view")) (Some (Views b)) tt,
 )
-of-two (a ∷ b ∷ c ∷ rest) = (tt, tt, tt)
+of-two (a ∷ b ∷ c ∷ rest) = (tt, tt, tt, tt)
 
 of-three : (words : List (List ℕ)) → HasCount (run_form words) × HasCount (gen_form words)
 of-three [] = (tt, tt)
@@ -112,7 +113,8 @@ form-has words =
     (first-has (ta_form words) _ two.1
     (first-has (feed_form words) _ four.0
     (first-has (cert_form words) _ four.1
-    (first-has (check_form words) None two.2 tt)))))))
+    (first-has (check_form words) _ two.2
+    (first-has (view_form words) None two.3 tt))))))))
 
 pub cert-count : (words : List (List ℕ)) (form : Form) → form_of words ≡ Some form → HasCertCount form
 cert-count words form e = subst HasCount e (form-has words)

@@ -3,3 +3,4 @@ pub mod CommandLine
 pub mod Read
 pub mod Script
 pub mod Scanning
+pub mod Holding

@@ -14,10 +14,11 @@ use Rattle.rs_words.specs.Certifying.{IsCertRun}
 use Rattle.rs_words.specs.Checking.{IsCheckRun}
 use Rattle.rs_words.specs.Feeding.{IsFeedRun}
 use Rattle.rs_run.specs.FeedTold.{word_fault}
-use Rattle.rs_run.specs.Words.{Certify, Check, Feed, Form, RunGenerated, RunScript, Threshold, Top, form_of}
+use Rattle.rs_run.specs.Words.{Certify, Check, Feed, Form, RunGenerated, RunScript, Threshold, Top, Views, form_of}
 use Rattle.rs_run.specs.Top.{top_lines}
 use Rattle.rs_run.specs.Plain.{HasStatements, ScriptRuns, as_it_is, source_of}
 use Rattle.rs_run.specs.Threshold.{ScansRun}
+use Rattle.rs_run.specs.Viewing.{ViewsRun}
 use Rattle.rs_expr.specs.Scoring.{Answering}
 use Rattle.rs_events.specs.Events.{Finds}
 use Rattle.rs_statement.specs.Steps.{Run}
@@ -48,6 +49,7 @@ IsFormRun finds answer (Threshold name) run = ScriptRuns Statement finds (ScansR
 IsFormRun finds answer (Feed words) run = (own : events.Run WordFault) × IsFeedRun finds words own × (run ≡ with_fault (word_fault words.left words.right) own)
 IsFormRun finds answer (Certify words) run = (own : events.Run WordFault) × IsCertRun finds words own × (run ≡ with_fault (word_fault words.left words.right) own)
 IsFormRun finds answer (Check file) run = (own : events.Run WordFault) × IsCheckRun finds file own × (run ≡ with_fault (word_fault file file) own)
+IsFormRun finds answer (Views name) run = ScriptRuns Statement finds (ViewsRun finds answer) name run
 IsFormRun finds answer form run = (own : Run) × IsRunOf finds answer form own × (run ≡ with_fault Statement own)
 
 -- the run of words of this form; where they are of none, it ends at once

@@ -19,6 +19,7 @@ use crate::report::report;
 use crate::status::Status;
 use crate::threshold::run_by_scan;
 use crate::top::top;
+use crate::viewing::run_with_views;
 use crate::words::{CommandLine, command_line_of};
 use rs_expr::Scorer;
 use rs_outside::{Files, Sink};
@@ -164,5 +165,8 @@ fn obey<F: Files, S: Scorer, O: Sink>(
             cert(alloc, words.left, words.right, words.count, files, out)
         }
         CommandLine::Check(file) => check(alloc, file, files, out),
+        CommandLine::Views(script) => {
+            run_with_views(alloc, script, &mut Readers::new(), files, scorer, out)
+        }
     }
 }

@@ -11,12 +11,13 @@ use std::alloc::Global;
 
 /// The line of words that are of no form. It grows with the words, so it stands above all that one word does.
 const USAGE: &str =
-    "usage: ranksql top FILE COLUMN MAX K, run SCRIPT SEED, plain SCRIPT, gen NUMBER ROWS, ta SCRIPT, feed LEFT RIGHT K, cert LEFT RIGHT K, check FILE\n";
+    "usage: ranksql top FILE COLUMN MAX K, run SCRIPT SEED, plain SCRIPT, gen NUMBER ROWS, ta SCRIPT, feed LEFT RIGHT K, cert LEFT RIGHT K, check FILE, view SCRIPT\n";
 
 /// A word of the command line whose scripts may have some statements alone.
 #[derive(Clone, Copy, Debug, PartialEq, Eq)]
 pub enum ScriptWord {
     Ta,
+    View,
 }
 
 impl ScriptWord {
@@ -25,6 +26,7 @@ impl ScriptWord {
     {
         match self {
             ScriptWord::Ta => "ta",
+            ScriptWord::View => "view",
         }
     }
 }

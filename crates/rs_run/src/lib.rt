@@ -18,6 +18,8 @@ mod statement;
 mod status;
 mod threshold;
 mod top;
+mod viewing;
+mod views;
 mod words;
 
 pub use command::{run, run_file};

@@ -210,7 +210,7 @@ fn not_eligible(number: usize) -> RunFault
 }
 
 /// The query that a statement binds.
-fn bound_query(alloc: Global, catalog: &Catalog, select: &Select) -> Result<Query, Fault>
+pub(crate) fn bound_query(alloc: Global, catalog: &Catalog, select: &Select) -> Result<Query, Fault>
     requires { IsWrittenQuery (query_of select.now) }
     ensures gives { Gives Fault.Memory (or_bind_fault (bound_query catalog.now (query_of select.now))) result }
     ensures formed { IfOk result (λ query. IsQuery catalog.now query) }

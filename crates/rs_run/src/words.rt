@@ -1,5 +1,5 @@
 ghost use Rattle.std.specs.Prelude.{◌≡◌, option_map};
-ghost use Rattle.rs_run.specs.Words.{cert_form, check_form, feed_form, form_of, gen_form, number_word, plain_form, run_form, ta_form, top_form};
+ghost use Rattle.rs_run.specs.Words.{cert_form, check_form, feed_form, form_of, gen_form, number_word, plain_form, run_form, ta_form, top_form, view_form};
 ghost use Rattle.rs_run.specs.Parts.CommandLine.{form_of_command_line};
 
 use rs_statement::{Evaluating, Sampling};
@@ -49,6 +49,8 @@ pub enum CommandLine<'a> {
     Certify(FeedCommand<'a>),
     /// What a check says of the certificate in the file of this name.
     Check(&'a Text),
+    /// The statements of the script of this name, with its queries kept as views.
+    Views(&'a Text),
 }
 
 /// What the words of a command line ask for, without the program's name, where they are of a form. The forms are tried in order.
@@ -76,7 +78,10 @@ pub fn command_line_of(words: &[Text]) -> Option<CommandLine<'_>>
     if let Some(command) = cert_command(words) {
         return Some(command);
     }
-    check_command(words)
+    if let Some(command) = check_command(words) {
+        return Some(command);
+    }
+    view_command(words)
 }
 
 /// The command of the words `top FILE COLUMN MAX K`.
@@ -202,6 +207,19 @@ fn check_command(words: &[Text]) -> Option<CommandLine<'_>>
         return None;
     }
     Some(CommandLine::Check(file))
+}
+
+/// The command of the words `view SCRIPT`.
+fn view_command(words: &[Text]) -> Option<CommandLine<'_>>
+    ensures { option_map form_of_command_line result ≡ view_form words.now }
+{
+    let [word, script] = words else {
+        return None;
+    };
+    if word.as_str() != "view" {
+        return None;
+    }
+    Some(CommandLine::Views(script))
 }
 
 /// A number of the command line: 1 to 20 decimal digits, that write a number from `least` to `most`.

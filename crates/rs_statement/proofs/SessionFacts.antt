@@ -31,20 +31,20 @@ Entries = List (List ℕ × CursorRows)
 abbrev pub is_key : List ℕ → List ℕ → Bool
 is_key name = pointwise nat_eq name
 
-same_name : (name other : List ℕ) → is_key name other ≡ bytes_eq other name
+pub same_name : (name other : List ℕ) → is_key name other ≡ bytes_eq other name
 same_name name other = nat_list_eq_equiv.symm name other
 
 any-same_name : (name : List ℕ) (names : List (List ℕ)) → list_any (is_key name) names ≡ has_name name names
 any-same_name name [] = refl
 any-same_name name (other ∷ names) = λ i. same_name name other i || any-same_name name names i
 
--- a cursor of a name is open exactly where the name is a key
-pub has_name-keys : (name : List ℕ) (entries : Entries) → is_some (lookup (is_key name) entries) ≡ has_name name (keys_of entries)
+-- a name is found exactly where it is a key, whatever is held under names
+pub has_name-keys : {V : Type 0} (name : List ℕ) (entries : List (List ℕ × V)) → is_some (lookup (is_key name) entries) ≡ has_name name (keys_of entries)
 has_name-keys name entries = is_some-lookup (is_key name) entries ∙ any-same_name name (keys_of entries)
 
-pub lookup-none : (name : List ℕ) (entries : Entries) → has_name name (keys_of entries) ≡ false → lookup (is_key name) entries ≡ None
-lookup-none name entries free = go (lookup (is_key name) entries) (has_name-keys name entries ∙ free) where
-  go : (found : Option CursorRows) → is_some found ≡ false → found ≡ None
+pub lookup-none : {V : Type 0} (name : List ℕ) (entries : List (List ℕ × V)) → has_name name (keys_of entries) ≡ false → lookup (is_key name) entries ≡ None
+lookup-none {V} name entries free = go (lookup (is_key name) entries) (has_name-keys name entries ∙ free) where
+  go : (found : Option V) → is_some found ≡ false → found ≡ None
   go None e = refl
   go (Some held) e = absurd cc
 
@@ -67,14 +67,14 @@ room-free : (name : List ℕ) (entries : Entries) (full : Bool) → has_name nam
     → room_for_cursor name (cursors_of entries) ≡ room_by name false full
 room-free name entries full free count = room-keys name entries ∙ (λ i. room_by name (free i) (count i))
 
-length-keys : (entries : Entries) → length (keys_of entries) ≡ length entries
+pub length-keys : {V : Type 0} (entries : List (List ℕ × V)) → length (keys_of entries) ≡ length entries
 length-keys entries = length-map entries (λ e. e.0)
 
 pub room-full : (name : List ℕ) (entries : Entries) → has_name name (keys_of entries) ≡ false → length entries ≡ most_cursors
     → room_for_cursor name (cursors_of entries) ≡ Err (Session Full name)
 room-full name entries free full = room-free name entries true free (eq-eqb (length (keys_of entries)) most_cursors (length-keys entries ∙ full))
 
-not-eqb : (a b : ℕ) → (a ≡ b → ⊥) → eqb a b ≡ false
+pub not-eqb : (a b : ℕ) → (a ≡ b → ⊥) → eqb a b ≡ false
 not-eqb a b differ = grind (arith, nat_tests)
 
 pub room-some : (name : List ℕ) (entries : Entries) → has_name name (keys_of entries) ≡ false → (length entries ≡ most_cursors → ⊥) → room_for_cursor name (cursors_of entries) ≡ Ok tt

@@ -203,7 +203,7 @@ fn room(session: &Session, name: &Text) -> Result<(), Fault>
 }
 
 /// The fault of a statement that can't have the cursor of this name.
-fn session_fault(why: SessionFault, name: &Text) -> Fault
+pub fn session_fault(why: SessionFault, name: &Text) -> Fault
     ensures { (result ≡ Fault.Session why name.now) ⊎ (result ≡ Fault.Memory) }
 {
     match name.copy() {

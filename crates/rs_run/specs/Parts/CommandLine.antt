@@ -6,7 +6,7 @@ use Rattle.rs_run.specs.declared.words.FeedCommand.{FeedCommand}
 use Rattle.rs_run.specs.declared.words.TopCommand.{TopCommand}
 use Rattle.rs_run.specs.declared.words.CommandLine.{CommandLine}
 use Rattle.rs_run.specs.declared.words.CommandLine.TheVariants as command
-use Rattle.rs_run.specs.Words.{Certify, Check, Feed, Form, RunGenerated, RunScript, Threshold, Top, TopWords}
+use Rattle.rs_run.specs.Words.{Certify, Check, Feed, Form, RunGenerated, RunScript, Threshold, Top, TopWords, Views}
 
 abbrev pub words_of : TopCommand → TopWords
 words_of top = record { file = top.file.now; column = top.column.now; max = top.max; count = top.count }
@@ -28,3 +28,4 @@ form_of_command_line (command.Check file) = Check file.now
 abbrev pub HasCertCount : Form → Type 0
 HasCertCount (Certify words) = words.count ≤ most_wanted
 HasCertCount _ = Unit {0}
+form_of_command_line (command.Views script) = Views script.now

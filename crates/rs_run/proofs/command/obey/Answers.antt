@@ -81,3 +81,6 @@ returns-in-Check g c = rw c.in-Check.is (record {
   does = λ beside. c.check.ensures (record beside { files = g.F.Files.state c.args.files.now; scorer = g.S.Scorer.state c.args.scorer.now; out = g.O.Sink.state c.args.out.now });
   unfetched = λ number rows generated. absurd cc;
 })
+
+pub returns-in-Views : goal.returns-in-Views
+returns-in-Views g c = rw c.in-Views.is (record { does = λ beside. c.run_with_views.ensures beside; unfetched = λ number rows generated. absurd cc })

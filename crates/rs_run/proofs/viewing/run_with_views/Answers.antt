@@ -1,0 +1,33 @@
+use Rattle.std.proofs.Common.{ℕ, ap, rules, sym}
+use Rattle.rs_value.proofs.ResultFacts.{given-err}
+use Rattle.rs_events.specs.Events.{finds_in}
+use Rattle.rs_run.specs.Faults.{run_faults}
+use Rattle.rs_run.specs.Viewing.{DoesNextByViews, ViewsRun, first_view_statement}
+use Rattle.rs_run.specs.declared.fault.RunFault.TheVariants.{Statement}
+use Rattle.rs_run.proofs.EachFacts.{each_views, finds_in-has}
+use Rattle.rs_run.proofs.ViewSteps.{DoesNextByViews-finds}
+use Rattle.rs_run.proofs.TextFacts.{RunOf-finds, Runs-of, Script-read, Script-unread, tells-words}
+use Rattle.rs_run.proofs.viewing.run_with_views.Goals as goal
+
+pub returns-in_err-script : goal.returns-in_err-script
+returns-in_err-script g c = λ beside.
+    let answer = (g.S.Scorer.state c.args.scorer.now).answer in
+    let finds = finds_in (g.F.Files.state c.args.files.now).told in
+    rw (given-err c.from_residual.result (Statement c.in_err-script.field-0.0) c.from_residual.ensures)
+    (Script-unread Statement run_faults tells-words c.args.name.now
+    (record beside { files = g.F.Files.state c.args.files.now; scorer = g.S.Scorer.state c.args.scorer.now; out = g.O.Sink.state c.args.out.now }) (g.F.Files.state c.fetch_script.new.files)
+    (ViewsRun finds answer) (each_views finds (finds_in-has (g.F.Files.state c.args.files.now).told) answer) c.in_err-script.field-0.0 c.in_err-script.ensures.fetches)
+
+pub returns : goal.returns
+returns g c = λ beside.
+    let same = sym c.view_text.ensures.ran.keeps.references in
+    let answer = (g.S.Scorer.state c.args.scorer.now).answer in
+    let finds = finds_in (g.F.Files.state c.args.files.now).told in
+    let later = finds_in (g.F.Files.state c.fetch_script.new.files).told in
+    Script-read Statement run_faults tells-words c.args.name.now
+    (record beside { files = g.F.Files.state c.args.files.now; scorer = g.S.Scorer.state c.args.scorer.now; out = g.O.Sink.state c.args.out.now }) (g.F.Files.state c.fetch_script.new.files)
+    (ViewsRun finds answer) (ViewsRun later answer)
+    (λ commands run more is. RunOf-finds (DoesNextByViews later answer) (DoesNextByViews finds answer) (λ state command step does. DoesNextByViews-finds later finds more answer state command step does) first_view_statement commands run is)
+    c.in_ok-script.script c.view_text.result
+    _ c.in_ok-script.ensures.fetches (Runs-of _ c.view_text.result _ _ beside _ _ _ (search (rules, ap (λ (r : ℕ × ℕ × ℕ). r.0) same)) (search (rules, ap (λ (r : ℕ × ℕ × ℕ). r.1) same))
+    (search (rules, ap (λ (r : ℕ × ℕ × ℕ). r.2) same)) c.view_text.ensures)

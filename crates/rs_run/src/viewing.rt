@@ -1,0 +1,281 @@
+//! The word `view`: a script whose queries are kept as views, which grow as rows join their tables.
+
+ghost use Rattle.std.specs.Prelude.{◌≡◌, ◌≤◌, ℕ, IfOk, length};
+ghost use Rattle.rs_syntax.specs.Syntax.{command_of, commands_of, query_of};
+ghost use Rattle.rs_syntax.specs.Written.{AreWritten, IsWritten, IsWrittenQuery};
+ghost use Rattle.rs_catalog.specs.IndexesHold.{IndexesHold};
+ghost use Rattle.rs_query.specs.WellFormed.{IsQuery};
+ghost use Rattle.rs_bind.specs.Inserts.{IsInsert};
+ghost use Rattle.rs_events.specs.Environment.{Environment};
+ghost use Rattle.rs_events.specs.Events.{finds_in};
+ghost use Rattle.rs_events.specs.Running.{Runs, Stepped};
+ghost use Rattle.rs_statement.specs.Parts.Steps as statement;
+ghost use Rattle.rs_run.specs.Faults.{run_faults};
+ghost use Rattle.rs_run.specs.Parts.Holding.{AllStand, IsKept, kept_of, views_in};
+ghost use Rattle.rs_run.specs.Plain.{TextRuns};
+ghost use Rattle.rs_run.specs.Running.{IsFormRun};
+ghost use Rattle.rs_run.specs.Viewing.{DoesByViews, DoesKept, ViewsRun, declared_step, viewed_step};
+ghost use Rattle.rs_run.specs.Words.{Views};
+ghost use Rattle.rs_run.specs.declared.fault.ScriptWord.TheVariants as word;
+
+use crate::fault::{RunFault, ScriptWord};
+use crate::plain::fetch_script;
+use crate::readers::Readers;
+use crate::statement::run_without_cursor;
+use crate::threshold::bound_query;
+use crate::views::{HeldViews, close_view, fetch_view, grow_views, make_view};
+use rs_catalog::Catalog;
+use rs_events::{Host, Objects};
+use rs_expr::Scorer;
+use rs_outside::{Files, Sink};
+use rs_query::Query;
+use rs_statement::{Evaluating, Fault, Session, insert_rows, release};
+use rs_syntax::{Name, Select, Statement};
+use rs_table::TableReader;
+use rs_value::Text;
+use rs_view::{is_keepable, views_go_on_to_stand};
+use std::alloc::Global;
+
+/// Does what a script says, statement by statement, up to the first fault, with its queries kept as views. It and its tables are
+/// read by these readers.
+pub fn run_with_views<T: TableReader, F: Files, S: Scorer, O: Sink>(
+    alloc: Global,
+    name: &Text,
+    readers: &mut Readers<T>,
+    files: &mut F,
+    scorer: &mut S,
+    out: &mut O,
+) -> Result<(), RunFault>
+    ensures { (beside : Environment) → Runs run_faults
+        (IsFormRun (finds_in (F.state files.old).told) (S.state scorer.old).answer (Views name.now)) result
+        (record beside { files = F.state files.old; scorer = S.state scorer.old; out = O.state out.old })
+        (record beside { files = F.state files.new; scorer = S.state scorer.new; out = O.state out.new }) }
+{
+    let script = fetch_script(alloc, name, files)?;
+    let mut host = Objects { files, scorer, out };
+    view_text(alloc, script, readers, &mut host)
+}
+
+/// Does what the text of a script says.
+fn view_text<T: TableReader, W: Host>(
+    alloc: Global,
+    script: Text,
+    readers: &mut Readers<T>,
+    host: &mut W,
+) -> Result<(), RunFault>
+    requires { length script ≤ 1048576 }
+    ensures { Runs run_faults
+        (TextRuns RunFault.Statement (ViewsRun (finds_in (W.state host.old).files.told) (W.state host.old).scorer.answer) script) result
+        (W.state host.old) (W.state host.new) }
+{
+    readers.script.read(alloc, script)?;
+    let statements = readers.script.statements();
+    view_statements(alloc, statements, &mut readers.tables, host)
+}
+
+/// Runs the statements of a script one after another, up to the first fault, over an empty catalogue and without a view.
+fn view_statements<T: TableReader, W: Host>(
+    alloc: Global,
+    statements: &[Statement],
+    tables: &mut T,
+    host: &mut W,
+) -> Result<(), RunFault>
+    requires written { AreWritten (commands_of statements.now) }
+    ensures { Runs run_faults (ViewsRun (finds_in (W.state host.old).files.told) (W.state host.old).scorer.answer (commands_of statements.now)) result
+        (W.state host.old) (W.state host.new) }
+{
+    let mut catalog = Catalog::new(alloc);
+    let mut held = HeldViews::new(alloc);
+    for (index, statement) in statements.iter().enumerate() {
+        match view_statement(
+            alloc,
+            index + 1,
+            statement,
+            &mut catalog,
+            &mut held,
+            tables,
+            host,
+        ) {
+            Ok(()) => {}
+            Err(fault) => {
+                drop(held);
+                release(catalog, Session::new(alloc));
+                return Err(fault);
+            }
+        }
+    }
+    drop(held);
+    release(catalog, Session::new(alloc));
+    Ok(())
+}
+
+/// Runs the statement of this number.
+fn view_statement<T: TableReader, W: Host>(
+    alloc: Global,
+    number: usize,
+    statement: &Statement,
+    catalog: &mut Catalog,
+    held: &mut HeldViews,
+    tables: &mut T,
+    host: &mut W,
+) -> Result<(), RunFault>
+    requires written { IsWritten (command_of statement.now) }
+    requires indexes { IndexesHold (W.state host.old).scorer.answer catalog.old }
+    requires stand { AllStand (W.state host.old).scorer.answer catalog.old (views_in held.old) }
+    ensures does { Stepped run_faults
+        (DoesByViews (finds_in (W.state host.old).files.told) (W.state host.old).scorer.answer number (kept_of catalog.old (views_in held.old)) (command_of statement.now))
+        (kept_of catalog.new (views_in held.new)) result (W.state host.old) (W.state host.new) }
+    ensures indexes { IfOk result (λ _. IndexesHold (W.state host.old).scorer.answer catalog.new) }
+    ensures stand { IfOk result (λ _. AllStand (W.state host.old).scorer.answer catalog.new (views_in held.new)) }
+{
+    match statement {
+        Statement::Declare { name, select } => declare_view(
+            alloc,
+            number,
+            name,
+            select,
+            catalog,
+            held,
+            host.scorer(),
+        ),
+        Statement::Query(_) => Err(not_eligible(number)),
+        Statement::Explain(_) => Err(not_eligible(number)),
+        Statement::ExplainAnalyze(_) => Err(not_eligible(number)),
+        _ => told(alloc, statement, catalog, held, tables, host),
+    }
+}
+
+/// The fault of the statement of this number, which the word doesn't take.
+fn not_eligible(number: usize) -> RunFault
+    ensures { result ≡ RunFault.NotEligible word.View number }
+{
+    RunFault::NotEligible {
+        word: ScriptWord::View,
+        statement: number,
+    }
+}
+
+/// DECLARE, the statement of this number: makes the view of a query, which is bound first.
+fn declare_view<S: Scorer>(
+    alloc: Global,
+    number: usize,
+    name: &Name,
+    select: &Select,
+    catalog: &Catalog,
+    held: &mut HeldViews,
+    scorer: &mut S,
+) -> Result<(), RunFault>
+    requires written { IsWrittenQuery (query_of select.now) }
+    requires stand { AllStand (S.state scorer.old).answer catalog.now (views_in held.old) }
+    ensures makes { (beside : Environment) → Stepped run_faults
+        (λ step. step ≡ declared_step (S.state scorer.old).answer number (kept_of catalog.now (views_in held.old)) name.now (query_of select.now))
+        (kept_of catalog.now (views_in held.new)) result
+        (record beside { scorer = S.state scorer.old }) (record beside { scorer = S.state scorer.new }) }
+    ensures stand { IfOk result (λ _. AllStand (S.state scorer.old).answer catalog.now (views_in held.new)) }
+{
+    let query = bound_query(alloc, catalog, select)?;
+    view_query(alloc, number, &name.text, query, catalog, held, scorer)
+}
+
+/// Makes the view of a bound query under this name, where one may be kept of it.
+fn view_query<S: Scorer>(
+    alloc: Global,
+    number: usize,
+    name: &Text,
+    query: Query,
+    catalog: &Catalog,
+    held: &mut HeldViews,
+    scorer: &mut S,
+) -> Result<(), RunFault>
+    requires formed { IsQuery catalog.now query }
+    requires stand { AllStand (S.state scorer.old).answer catalog.now (views_in held.old) }
+    ensures makes { (beside : Environment) → Stepped run_faults
+        (λ step. step ≡ viewed_step (S.state scorer.old).answer number name.now (kept_of catalog.now (views_in held.old)) query)
+        (kept_of catalog.now (views_in held.new)) result
+        (record beside { scorer = S.state scorer.old }) (record beside { scorer = S.state scorer.new }) }
+    ensures stand { IfOk result (λ _. AllStand (S.state scorer.old).answer catalog.now (views_in held.new)) }
+{
+    if !is_keepable(&query) {
+        drop(query);
+        return Err(not_eligible(number));
+    }
+    make_view(alloc, name, query, catalog, held, scorer)?;
+    Ok(())
+}
+
+/// Runs a statement that the word takes and that isn't a DECLARE.
+fn told<T: TableReader, W: Host>(
+    alloc: Global,
+    statement: &Statement,
+    catalog: &mut Catalog,
+    held: &mut HeldViews,
+    tables: &mut T,
+    host: &mut W,
+) -> Result<(), RunFault>
+    requires kept { IsKept (command_of statement.now) }
+    requires written { IsWritten (command_of statement.now) }
+    requires indexes { IndexesHold (W.state host.old).scorer.answer catalog.old }
+    requires stand { AllStand (W.state host.old).scorer.answer catalog.old (views_in held.old) }
+    ensures does { (number : ℕ) → Stepped run_faults
+        (DoesByViews (finds_in (W.state host.old).files.told) (W.state host.old).scorer.answer number (kept_of catalog.old (views_in held.old)) (command_of statement.now))
+        (kept_of catalog.new (views_in held.new)) result (W.state host.old) (W.state host.new) }
+    ensures indexes { IfOk result (λ _. IndexesHold (W.state host.old).scorer.answer catalog.new) }
+    ensures stand { IfOk result (λ _. AllStand (W.state host.old).scorer.answer catalog.new (views_in held.new)) }
+{
+    run_kept(alloc, statement, catalog, held, tables, host)?;
+    Ok(())
+}
+
+/// Runs a statement that the word takes and that isn't a DECLARE, with the faults of statements.
+fn run_kept<T: TableReader, W: Host>(
+    alloc: Global,
+    statement: &Statement,
+    catalog: &mut Catalog,
+    held: &mut HeldViews,
+    tables: &mut T,
+    host: &mut W,
+) -> Result<(), Fault>
+    requires kept { IsKept (command_of statement.now) }
+    requires written { IsWritten (command_of statement.now) }
+    requires indexes { IndexesHold (W.state host.old).scorer.answer catalog.old }
+    requires stand { AllStand (W.state host.old).scorer.answer catalog.old (views_in held.old) }
+    ensures does { statement.Stepped
+        (DoesKept (finds_in (W.state host.old).files.told) (W.state host.old).scorer.answer (kept_of catalog.old (views_in held.old)) (command_of statement.now))
+        (kept_of catalog.new (views_in held.new)) result (W.state host.old) (W.state host.new) }
+    ensures indexes { IfOk result (λ _. IndexesHold (W.state host.old).scorer.answer catalog.new) }
+    ensures stand { IfOk result (λ _. AllStand (W.state host.old).scorer.answer catalog.new (views_in held.new)) }
+{
+    match statement {
+        Statement::Fetch { count, name } => fetch_view(alloc, count, name, held, host.out()),
+        Statement::Close { name } => close_view(name, held),
+        Statement::Insert { .. } => insert_and_grow(alloc, statement, catalog, held, host.scorer()),
+        _ => {
+            views_go_on_to_stand();
+            run_without_cursor(alloc, Evaluating::Plainly, statement, catalog, tables, host)
+        }
+    }
+}
+
+/// INSERT: puts rows into their table and its indexes, and then brings the views up to date.
+fn insert_and_grow<S: Scorer>(
+    alloc: Global,
+    statement: &Statement,
+    catalog: &mut Catalog,
+    held: &mut HeldViews,
+    scorer: &mut S,
+) -> Result<(), Fault>
+    requires form { IsInsert (command_of statement.now) }
+    requires written { IsWritten (command_of statement.now) }
+    requires indexes { IndexesHold (S.state scorer.old).answer catalog.old }
+    requires stand { AllStand (S.state scorer.old).answer catalog.old (views_in held.old) }
+    ensures does { (beside : Environment) → statement.Stepped
+        (DoesKept (finds_in beside.files.told) (S.state scorer.old).answer (kept_of catalog.old (views_in held.old)) (command_of statement.now))
+        (kept_of catalog.new (views_in held.new)) result
+        (record beside { scorer = S.state scorer.old }) (record beside { scorer = S.state scorer.new }) }
+    ensures indexes { IfOk result (λ _. IndexesHold (S.state scorer.old).answer catalog.new) }
+    ensures stand { IfOk result (λ _. AllStand (S.state scorer.old).answer catalog.new (views_in held.new)) }
+{
+    views_go_on_to_stand();
+    insert_rows(alloc, statement, catalog, scorer)?;
+    grow_views(alloc, catalog, held, scorer)
+}

@@ -1,0 +1,219 @@
+//! The views that a script holds: what DECLARE, INSERT, FETCH and CLOSE do with them under the word `view`.
+
+ghost use Rattle.std.specs.Prelude.{◌≡◌, ◌++◌, ◌∷◌, [], IfErr, IfOk, OnErr, OnOk, false, take};
+ghost use Rattle.indexmap.specs.IndexMap.{keys};
+ghost use Rattle.rs_value.specs.Answer.{Gives};
+ghost use Rattle.rs_catalog.specs.Catalog.{CatalogDef, has_name};
+ghost use Rattle.rs_expr.specs.InOrder.{Inquires};
+ghost use Rattle.rs_expr.specs.Scoring.{Answering};
+ghost use Rattle.rs_query.specs.WellFormed.{IsQuery};
+ghost use Rattle.rs_view.specs.Views.{IsKeepable};
+ghost use Rattle.rs_events.specs.Environment.{Environment};
+ghost use Rattle.rs_events.specs.Run.{lines_run};
+ghost use Rattle.rs_statement.specs.Lines.{rank_lines};
+ghost use Rattle.rs_statement.specs.Parts.Steps.{Leaves, Ran, Stepped};
+ghost use Rattle.rs_run.specs.Parts.Holding.{AllStand, NamesSome, as_all_grown, kept_of, views_in};
+ghost use Rattle.rs_run.specs.Viewing.{close_outcome, fetch_step, growing_all, grown_step, named_step, room_for_view};
+
+use indexmap::IndexMap;
+use rs_bind::bind_count;
+use rs_catalog::Catalog;
+use rs_expr::Scorer;
+use rs_lex::Span;
+use rs_outside::Sink;
+use rs_plain::PlainFault;
+use rs_query::Query;
+use rs_rank::Answer;
+use rs_statement::{Fault, SessionFault, put_rows, query_fault, session_fault};
+use rs_syntax::Name;
+use rs_value::{Memory, Text};
+use rs_view::View;
+use std::alloc::Global;
+
+/// The most views that may be held at once.
+const MOST_VIEWS: usize = 64;
+
+/// The views of a script by name, in the order of their DECLARE.
+#[derive(Drop)]
+pub(crate) struct HeldViews {
+    views: IndexMap<Text, View>,
+}
+
+impl HeldViews {
+    /// No views.
+    pub(crate) fn new(alloc: Global) -> HeldViews
+        ensures { views_in result ≡ [] }
+    {
+        HeldViews {
+            views: IndexMap::new(alloc),
+        }
+    }
+}
+
+/// Makes the view of a query and holds it under this name, as the last one. Whether the name can be held counts before the calls.
+pub(crate) fn make_view<S: Scorer>(
+    alloc: Global,
+    name: &Text,
+    query: Query,
+    catalog: &Catalog,
+    held: &mut HeldViews,
+    scorer: &mut S,
+) -> Result<(), Fault>
+    requires query { IsQuery catalog.now query }
+    requires keepable { IsKeepable query }
+    requires stand { AllStand (S.state scorer.old).answer catalog.now (views_in held.old) }
+    ensures makes { (beside : Environment) → Stepped
+        (λ step. step ≡ named_step (S.state scorer.old).answer name.now (kept_of catalog.now (views_in held.old)) query)
+        (kept_of catalog.now (views_in held.new)) result
+        (record beside { scorer = S.state scorer.old }) (record beside { scorer = S.state scorer.new }) }
+    ensures stand { IfOk result (λ _. AllStand (S.state scorer.old).answer catalog.now (views_in held.new)) }
+{
+    // What isn't kept is handed to `drop`: to let go of it here, at each end, takes minutes to prove.
+    match room(held, name) {
+        Ok(()) => {}
+        Err(why) => {
+            drop(query);
+            return Err(why);
+        }
+    }
+    match View::make(alloc, catalog, query, scorer) {
+        Ok(view) => {
+            hold(held, name, view)?;
+            Ok(())
+        }
+        Err(why) => Err(query_fault(catalog, why)),
+    }
+}
+
+/// Whether a view of this name can be held.
+fn room(held: &HeldViews, name: &Text) -> Result<(), Fault>
+    ensures gives { Gives Fault.Memory (room_for_view name.now (views_in held.now)) result }
+    ensures free { IfOk result (λ _. has_name name.now (keys held.now.views) ≡ false) }
+{
+    if held.views.contains_key(name) {
+        return Err(session_fault(SessionFault::NameTaken, name));
+    }
+    if held.views.len() == MOST_VIEWS {
+        return Err(session_fault(SessionFault::Full, name));
+    }
+    Ok(())
+}
+
+/// Makes a view the last one. Where there is no memory, it isn't held.
+fn hold(held: &mut HeldViews, name: &Text, view: View) -> Result<(), Memory>
+    requires { has_name name.now (keys held.old.views) ≡ false }
+    ensures ok { OnOk result (views_in held.new ≡ views_in held.old ++ (name.now, view) ∷ []) }
+    ensures err { OnErr result (views_in held.new ≡ views_in held.old) }
+{
+    match name.copy() {
+        Ok(name) => insert(held, name, view),
+        Err(Memory) => {
+            drop(view);
+            Err(Memory)
+        }
+    }
+}
+
+/// Makes a view that has this name the last one. Where there is no memory, it isn't held.
+fn insert(held: &mut HeldViews, name: Text, view: View) -> Result<(), Memory>
+    requires { has_name name (keys held.old.views) ≡ false }
+    ensures ok { OnOk result (views_in held.new ≡ views_in held.old ++ (name, view) ∷ []) }
+    ensures err { OnErr result (views_in held.new ≡ views_in held.old) }
+{
+    match held.views.insert(name, view) {
+        Ok(none) => {
+            drop(none);
+            Ok(())
+        }
+        Err(failed) => {
+            drop(failed);
+            Err(Memory)
+        }
+    }
+}
+
+/// Brings the views up to date with the tables, in the order of their DECLARE, up to the first fault.
+pub(crate) fn grow_views<S: Scorer>(
+    alloc: Global,
+    catalog: &Catalog,
+    held: &mut HeldViews,
+    scorer: &mut S,
+) -> Result<(), Fault>
+    requires { AllStand (S.state scorer.old).answer catalog.now (views_in held.old) }
+    ensures grows { (beside : Environment) → Stepped
+        (λ step. step ≡ grown_step (S.state scorer.old).answer catalog.now (views_in held.old))
+        (kept_of catalog.now (views_in held.new)) result
+        (record beside { scorer = S.state scorer.old }) (record beside { scorer = S.state scorer.new }) }
+    ensures stand { IfOk result (λ _. AllStand (S.state scorer.old).answer catalog.now (views_in held.new)) }
+{
+    match grow_all(alloc, catalog, &mut held.views, scorer) {
+        Ok(()) => Ok(()),
+        Err(why) => Err(query_fault(catalog, why)),
+    }
+}
+
+/// Brings views up to date, one after another.
+fn grow_all<S: Scorer>(
+    alloc: Global,
+    catalog: &Catalog,
+    views: &mut IndexMap<Text, View>,
+    scorer: &mut S,
+) -> Result<(), PlainFault>
+    requires { AllStand (S.state scorer.old).answer catalog.now views.old.entries }
+    ensures grows { Inquires PlainFault.Memory (growing_all (S.state scorer.old).answer catalog.now views.old.entries)
+        (as_all_grown views.new.entries result) (S.state scorer.old) (S.state scorer.new) }
+    ensures stand { IfOk result (λ _. AllStand (S.state scorer.old).answer catalog.now views.new.entries) }
+
+    // A bad or failed call is one of a term of some view's query.
+    ensures names { IfErr result (NamesSome catalog.now) }
+{
+    for index in 0..views.len() {
+        if let Some(view) = views.get_index_mut(index) {
+            view.grow(alloc, catalog, scorer)?;
+        }
+    }
+    Ok(())
+}
+
+/// FETCH: puts the first rows of a view, at most this many, with ranks from 1 on.
+pub(crate) fn fetch_view<O: Sink>(
+    alloc: Global,
+    count: &(i64, Span),
+    name: &Name,
+    held: &HeldViews,
+    out: &mut O,
+) -> Result<(), Fault>
+    ensures { (beside : Environment) (catalogue : CatalogDef) → Stepped
+        (λ step. step ≡ fetch_step (kept_of catalogue (views_in held.now)) count.now name.now) (kept_of catalogue (views_in held.now)) result
+        (record beside { out = O.state out.old }) (record beside { out = O.state out.new }) }
+{
+    let count = bind_count(count.0, count.1)?;
+    match held.views.get(&name.text) {
+        Some(view) => put_first(alloc, count, view.rows(), out),
+        None => Err(session_fault(SessionFault::Unknown, &name.text)),
+    }
+}
+
+/// Puts the first ones of some rows, at most this many.
+fn put_first<O: Sink>(alloc: Global, count: u32, rows: &[Answer], out: &mut O) -> Result<(), Fault>
+    ensures { (beside : Environment) → Ran (lines_run (rank_lines 1 (take count rows.now))) result
+        (record beside { out = O.state out.old }) (record beside { out = O.state out.new }) }
+{
+    let wanted = (count as usize).min(rows.len());
+    put_rows(alloc, 0, &rows[..wanted], out)
+}
+
+/// CLOSE: the name of a view is free again. All other views stay in their order.
+pub(crate) fn close_view(name: &Name, held: &mut HeldViews) -> Result<(), Fault>
+    ensures closes { (catalogue : CatalogDef) → Leaves (close_outcome (kept_of catalogue (views_in held.old)) name.now) (kept_of catalogue (views_in held.new)) result }
+    ensures stand { (answer : Answering) (catalogue : CatalogDef) → AllStand answer catalogue (views_in held.old)
+        → AllStand answer catalogue (views_in held.new) }
+{
+    match held.views.shift_remove(&name.text) {
+        Some(view) => {
+            drop(view);
+            Ok(())
+        }
+        None => Err(session_fault(SessionFault::Unknown, &name.text)),
+    }
+}
