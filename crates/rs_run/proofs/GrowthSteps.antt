@@ -32,6 +32,12 @@ module _ (answer : Answering) (catalogue : CatalogDef) where
       let same : first ≡ held = cc in ap (λ (h : HeldView). (first.0, whole_view answer catalogue h.1.query) ∷ views) (sym same)
   set-up_to (first ∷ views) (suc i) held e = ap (λ rest. grown_view answer catalogue first ∷ rest) (set-up_to views i held e)
 
+  -- none goes away
+  pub length-up_to : (views : List HeldView) (i : ℕ) → length (grown_up_to answer catalogue i views) ≡ length views
+  length-up_to views zero = refl
+  length-up_to [] (suc i) = refl
+  length-up_to (first ∷ views) (suc i) = ap suc (length-up_to views i)
+
   -- all of them grew
   pub all-up_to : (views : List HeldView) (i : ℕ) → length views ≤ i → grown_up_to answer catalogue i views ≡ map (grown_view answer catalogue) views
   all-up_to views i all =
