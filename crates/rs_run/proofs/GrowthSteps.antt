@@ -92,7 +92,7 @@ pub record At (views : List HeldView) (i : ℕ) (view : ViewDef) : Type 0 where
   pub there : slice_get views i ≡ Some held
   pub within : i < length views
   pub own : held ≡ get_or views i held
-  pub view : view ≡ held.1
+  pub same : view ≡ held.1
 
 at-place : (answer : Answering) (catalogue : CatalogDef) (views : List HeldView) (i : ℕ) (view : ViewDef)
     → slice_get (map (λ (h : HeldView). h.1) (grown_up_to answer catalogue i views)) i ≡ Some view → At views i view
@@ -101,10 +101,10 @@ at-place answer catalogue [] i view e = absurd (none-there i e) where
   none-there zero e = cc
   none-there (suc i) e = cc
 at-place answer catalogue (held ∷ views) zero view e =
-    record { held = held; there = refl; within = omega arith; own = refl; view = let same : held.1 ≡ view = cc in sym same }
+    record { held = held; there = refl; within = omega arith; own = refl; same = let same : held.1 ≡ view = cc in sym same }
 at-place answer catalogue (held ∷ views) (suc i) view e =
     let rest = at-place answer catalogue views i view e in
-    record { held = rest.held; there = rest.there; within = omega (arith, rest.within); own = rest.own; view = rest.view }
+    record { held = rest.held; there = rest.there; within = omega (arith, rest.within); own = rest.own; same = rest.same }
 
 pub held-at : (answer : Answering) (catalogue : CatalogDef) (views : List HeldView) (i : ℕ) (now : List HeldView) (view : ViewDef) → now ≡ grown_up_to answer catalogue i views
     → slice_get (map (λ (h : HeldView). h.1) now) i ≡ Some view → At views i view

@@ -1,6 +1,7 @@
 use Rattle.std.proofs.Common.{ℕ, List, ◌≡◌, ◌∙◌, ◌+◌, ◌<◌, ◌≤◌, drop, length, map, suc, take, arith, refl, sym, ap, subst}
 use Rattle.std.specs.Prelude.{Ok, Some, slice_get}
 use Rattle.std.specs.List.{flat_map}
+use Rattle.std.proofs.lemmas.Bool.{false≢true}
 use Rattle.std.proofs.lemmas.List.{take_all}
 use Rattle.rs_value.proofs.ResultFacts.{given-err}
 use Rattle.rs_expr.specs.Scoring.{Answering}
@@ -40,9 +41,9 @@ returns-in_err-grow g c =
           (flat_map (growth_questions catalogue) (drop (i + 1) views)) (flat_map (growth_questions catalogue) views) (λ (a : Answering). whole_view a catalogue at.held.1.query)
           (map (grown_view old.answer catalogue) views) fault _ old middle new (flat_map-split (growth_questions catalogue) views i at.held at.within at.own)
           (ap (as_all_grown _) (given-err c.from_residual.result fault c.from_residual.ensures)) c.loop-index.invariant.asked
-          (rw at.view at c.in_err-grow.ensures.grows);
+          (rw at.same at c.in_err-grow.ensures.grows);
       stand = rw (given-err c.from_residual.result fault c.from_residual.ensures) tt;
-      names = rw (given-err c.from_residual.result fault c.from_residual.ensures) (at.held.1.query, rw at.view at c.in_err-grow.ensures.names);
+      names = rw (given-err c.from_residual.result fault c.from_residual.ensures) (at.held.1.query, rw at.same at c.in_err-grow.ensures.names);
     }
 
 pub loop-index-preserved : goal.loop-index-preserved
@@ -58,7 +59,7 @@ loop-index-preserved g c =
           let new = g.S.Scorer.state w.grow.new.scorer in
           let at = held-at old.answer catalogue views i c.loop-index.views.entries w.in-Some.view.now c.loop-index.invariant.grown (sym w.in-Some.ensures.value) in
           let gave = Gave-behind plain_faults Memory catalogue {A = ViewDef} first (growth_questions catalogue at.held) (λ (a : Answering). whole_view a catalogue at.held.1.query) w.grow.new.self
-          old middle new c.loop-index.invariant.asked (rw at.view at w.in_ok-grow.ensures.grows) in
+          old middle new c.loop-index.invariant.asked (rw at.same at w.in_ok-grow.ensures.grows) in
           let next : suc i ≡ i + 1 = omega arith in
           rw w.views-is (rw w.scorer-is (record {
             asked = subst (λ questions. AllAsked old.answer catalogue questions old new) (sym (flat_map-at (growth_questions catalogue) views i at.held at.within at.own))
@@ -72,7 +73,7 @@ loop-index-preserved g c =
       | in_default w ↦
           let within : i < length c.loop-index.views.entries =
           omega (arith, c.loop-index-test.true, c.len-index-end.ensures.len, ap length c.loop-index.invariant.grown, length-up_to old.answer catalogue views i) in
-          absurd (w.in_default.ensures.found.1 within)
+          absurd (false≢true (w.in_default.ensures.found.1 within))
     ]
 
 pub returns : goal.returns
