@@ -9,8 +9,7 @@ use Rattle.rs_value.specs.declared.value.Value.{Value}
 use Rattle.rs_value.specs.declared.value.Value.TheVariants.{Text}
 use Rattle.rs_table.specs.declared.fault.TableFault.{TableFault}
 use Rattle.rs_table.specs.declared.fault.TableFault.TheVariants.{FieldCount, HeaderDiffers, NotUtf8, TooManyRows}
-use Rattle.rs_table.specs.Column.{Column}
-use Rattle.rs_table.specs.Reading.{cell_of, cells_of, difference_from, row_of, rows_from, rows_of_records, table_of}
+use Rattle.rs_table.specs.Reading.{cells_of, difference_from, row_of, rows_from, rows_of_records, table_of}
 use Rattle.rs_table.specs.Records.{records_of}
 use Rattle.rs_table.specs.Relation.{Relation, most_rows}
 use Rattle.rs_feed.specs.declared.feed_row.FeedRow.{FeedRow}
@@ -20,8 +19,7 @@ use Rattle.rs_table_feed.proofs.TableFeedFacts.{all-scores}
 use Rattle.rs_feed_join.specs.Cuts.{HaveScores}
 use Rattle.rs_order.proofs.EachFacts.{each-map}
 use Rattle.rs_events.specs.Fetching.{fetched_bytes}
-use Rattle.rs_cert.specs.Written.{AreWritableRows, IsWritableRow}
-use Rattle.rs_words.specs.declared.fault.WordFault.{WordFault}
+use Rattle.rs_cert.specs.Written.{AreWritableRows}
 use Rattle.rs_words.specs.Faults.{or_range, or_read, or_table}
 use Rattle.rs_words.specs.FeedFiles.{feed_columns, feed_file, file_limit, rows_in}
 
@@ -42,7 +40,6 @@ where-ok false rest fault a e = absurd cc
 -- an answer that was given is one alone
 pub ok-same : {A E : Type 0} {a b : A} → ◌≡◌ {A = Result A E} (Ok a) (Ok b) → a ≡ b
 ok-same e = cc
-
 
 -- the first field of a row is its text
 field-text : (row : ℕ) (field : List ℕ) (others : Result (List Value) TableFault) (values : List Value)

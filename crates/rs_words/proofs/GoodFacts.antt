@@ -1,5 +1,5 @@
 -- What the word `cert` puts is a good certificate, and the word `check` says yes to it.
-use Rattle.std.proofs.Common.{ℕ, zero, suc, ◌≡◌, ◌∙◌, ◌⊎◌, ◌+◌, ◌<◌, ◌≤◌, nat_le, Bool, true, false, cond, List, [], ◌∷◌, find, length, min, take, slice_get, Option, Some, None, Result, Ok, Err, refl, sym, ap, subst, inl, inr, arith}
+use Rattle.std.proofs.Common.{ℕ, zero, suc, ◌≡◌, ◌∙◌, ◌⊎◌, ◌+◌, ◌<◌, ◌≤◌, Bool, true, false, cond, List, [], ◌∷◌, find, length, min, take, slice_get, Option, Some, None, Result, Ok, Err, refl, sym, ap, subst, inl, inr, arith}
 use Rattle.std.proofs.lemmas.Bool.{le-leb}
 use Rattle.std.proofs.lemmas.List.{length-map, length-take}
 use Rattle.std.proofs.lemmas.Option.{slice_get_within}
@@ -12,14 +12,14 @@ use Rattle.rs_cert.specs.declared.cert.CertSide.{CertSide}
 use Rattle.rs_cert.specs.declared.verdict.Verdict.TheVariants.{Yes}
 use Rattle.rs_cert.specs.Good.{IsGood, answers_of, first_answers}
 use Rattle.rs_cert.specs.Pairs.{Answer}
-use Rattle.rs_cert.specs.Records.{HasFewRows, most_rows, most_wanted}
+use Rattle.rs_cert.specs.Records.{HasFewRows, most_wanted}
 use Rattle.rs_cert.specs.Written.{AreWritablePairs, AreWritableRows, IsWritablePair, IsWritableRow, written}
 use Rattle.rs_cert.proofs.AnswerFacts.{In-answers-back}
 use Rattle.rs_cert.proofs.PairFacts.{IsPair}
 use Rattle.rs_cert.proofs.WrittenFacts.{written-back}
 use Rattle.rs_cert_join.specs.Certs.{AreGiven, cert_of, cert_side, numbers_in}
 use Rattle.rs_cert_join.proofs.GoodFacts.{given-good}
-use Rattle.rs_events.specs.Events.{Fetch, finds_in, puts}
+use Rattle.rs_events.specs.Events.{finds_in, puts}
 use Rattle.rs_events.specs.Fetching.{fetched_bytes}
 use Rattle.rs_events.specs.Run.{Run, lines_run}
 use Rattle.rs_events.proofs.OneRun.{told-one}
@@ -30,7 +30,6 @@ use Rattle.rs_feed_join.specs.Joins.{IsKept}
 use Rattle.rs_feed_join.specs.Pairs.{joined_pairs}
 use Rattle.rs_feed_join.specs.Parts.{join_state}
 use Rattle.rs_feed_join.specs.Ranked.{asks_of_rows}
-use Rattle.rs_order.specs.Climbing.{In}
 use Rattle.rs_order.specs.Schedule.{Left, Right, SideAsk, asked}
 use Rattle.rs_order.proofs.ClimbingFacts.{AllByRecursion-from_In}
 use Rattle.rs_order.proofs.EachFacts.{each-map, each-take}

@@ -1,5 +1,5 @@
 -- The join of two lists of rows that are told, made again ask by ask: it stands at all asks of its schedule.
-use Rattle.std.proofs.Common.{ℕ, zero, suc, ◌≡◌, ◌∙◌, ◌+◌, ◌<◌, ◌≤◌, ◌^◌, ◌==◌, Bool, true, false, cond, List, [], ◌∷◌, ◌++◌, find, length, take, slice_get, Option, Some, None, refl, sym, ap, ap₂, subst, arith}
+use Rattle.std.proofs.Common.{ℕ, zero, suc, ◌≡◌, ◌∙◌, ◌+◌, ◌<◌, ◌≤◌, ◌^◌, ◌==◌, Bool, true, false, cond, List, [], ◌∷◌, ◌++◌, find, length, slice_get, Option, Some, None, refl, sym, ap, ap₂, subst, arith}
 use Rattle.std.specs.Prelude.{unwrap_or}
 use Rattle.std.proofs.lemmas.Bool.{true≢false}
 use Rattle.std.proofs.lemmas.List.{take_all}
@@ -12,7 +12,7 @@ use Rattle.rs_feed_join.specs.Cuts.{HaveScores, cut, last_score, most_rows, refu
 use Rattle.rs_feed_join.specs.Joins.{Continues, IsKept}
 use Rattle.rs_feed_join.specs.Pairs.{joined_pairs}
 use Rattle.rs_feed_join.specs.Parts.{PartsState, StandsAt, asked_once_more, join_state, new_parts}
-use Rattle.rs_feed_join.specs.Ranked.{asks_of_rows, join_of_rows, left_row, left_rows, right_row, right_rows, same_texts}
+use Rattle.rs_feed_join.specs.Ranked.{join_of_rows, left_row, left_rows, right_row, right_rows, same_texts}
 use Rattle.rs_feed_join.specs.Sides.{AreTaken, FeedSide}
 use Rattle.rs_feed_join.proofs.AnswerFacts.{cut-continues, get-length, length-refused, order-refused, pairs-length}
 use Rattle.rs_feed_join.proofs.KeptFacts.{is-kept, is-whole}
