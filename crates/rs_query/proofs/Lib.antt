@@ -17,6 +17,7 @@ pub mod HoldNewFacts
 pub mod IndexTermFacts
 pub mod KeptCombinations
 pub mod KeyFacts
+pub mod KindFacts
 pub mod LentFacts
 pub mod LimitFacts
 pub mod ListFacts
@@ -26,6 +27,7 @@ pub mod NextFacts
 pub mod QuestionFacts
 pub mod RangeFacts
 pub mod RiseFacts
+pub mod ScanFacts
 pub mod ScoreFacts
 pub mod StepsFacts
 pub mod ThroughFacts
