@@ -27,7 +27,6 @@ pub mod NextFacts
 pub mod QuestionFacts
 pub mod RangeFacts
 pub mod RiseFacts
-pub mod ScanFacts
 pub mod ScoreFacts
 pub mod StepsFacts
 pub mod ThroughFacts

@@ -16,6 +16,7 @@ use Rattle.rs_catalog.specs.Catalog.{CatalogDef}
 use Rattle.rs_query.specs.declared.block.Block.{Block}
 use Rattle.rs_query.specs.declared.equal_rows.EqualRows.{EqualRows}
 use Rattle.rs_query.specs.declared.tie.Tie.{Tie}
+use Rattle.rs_query.specs.Meaning.{column_value}
 use Rattle.rs_query.specs.EqualRows.{AreFirst, AreKeys, AreNextBehind, HasKey, IsEqualKey, IsNext}
 use Rattle.rs_query.specs.Searching.{AreEqualRows, AreEquated, Fits, IsTied, cell_of}
 use Rattle.rs_query.specs.Tables.{HasRow, HasRows, entry_table, row_number, size_of}
@@ -116,6 +117,13 @@ pub cell_of-value : (catalogue : CatalogDef) (block : Block) (column : ℕ × �
 cell_of-value catalogue block column row table v is_table is =
     ap (λ (o : Option Relation). unwrap_or (option_and_then (λ (t : Relation). cell_at t row column.1) o) (value.Int (pos 0))) is_table
     ∙ ap (λ (o : Option Value). unwrap_or o (value.Int (pos 0))) is
+
+-- a row fits a tie where its cell is equal to that of the earlier entry
+pub fits-cell : (catalogue : CatalogDef) (block : Block) (tie : Tie) (rows : List ℕ) (row : ℕ) (table : Relation) (left found : Value) → entry_table catalogue block tie.right.0 ≡ Some table
+    → left ≡ column_value catalogue block rows tie.left → cell_at table row tie.right.1 ≡ Some found → (found ≡ left) ↔ Fits catalogue block (Some tie) rows row
+fits-cell catalogue block tie rows row table left found is_table is_left is_found =
+    let is : cell_of catalogue block tie.right row ≡ found = cell_of-value catalogue block tie.right row table found is_table is_found in
+    ((λ same. sym is_left ∙ sym same ∙ sym is), (λ fits. sym is ∙ sym fits ∙ sym is_left))
 
 -- an item of a list with one more
 slice_get-push : {K : Type 0} (xs : List K) (y : K) (i : ℕ) (k : K) → slice_get (xs ++ y ∷ []) i ≡ Some k → (slice_get xs i ≡ Some k) ⊎ ((i ≡ length xs) × (y ≡ k))

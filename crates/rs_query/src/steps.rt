@@ -19,9 +19,9 @@ use rs_rank::{has_number, mask_of, union};
 use rs_value::Memory;
 use std::alloc::Global;
 
-/// A step that is reached at most so many times looks at each row of its entry in place of lists of the rows of equal cells. To make
-/// the lists takes as long as some hundred looks at each row.
-const MOST_SCANS: u32 = 32;
+/// A step that is reached at most so many times looks at each row of its entry, in place of lists of the rows of equal cells: to make
+/// the lists takes about as long as so many looks at each row.
+const MOST_SCANS: u32 = 16;
 
 impl Block {
     /// The steps of the search that begins at an entry, the pivot. Of the pivot new rows are looked at, which come behind those of

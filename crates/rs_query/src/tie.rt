@@ -1,14 +1,16 @@
 //! The rows of an entry whose cells are equal to that of an earlier one.
 
-ghost use Rattle.std.specs.Prelude.{◌≡◌, ◌≤◌, ◌<◌, ℕ, Some, if◌then◌else◌, nat_le};
+ghost use Rattle.std.specs.Prelude.{◌≡◌, ◌≤◌, ◌↔◌, ℕ, IsTrue, if◌then◌else◌, nat_le};
 ghost use Rattle.rs_query.specs.EqualRows.{IsNext};
 ghost use Rattle.rs_query.specs.Searching.{Fits, IsTied};
 ghost use Rattle.rs_query.specs.Tables.{HasRows, size_of};
 ghost use Rattle.rs_query.specs.WellFormed.{IsBlock};
+ghost use Rattle.rs_table.specs.Lent.{shown};
 
 use crate::block::Block;
 use crate::equal_rows::EqualRows;
 use rs_catalog::Snapshot;
+use rs_table::Cell;
 
 /// A column of an earlier entry and one of a step's own entry, which a condition equates.
 #[derive(Drop)]
@@ -73,7 +75,7 @@ impl Tie {
         let cell = block.cell(catalog, self.left, rows);
         let table = block.table(catalog, self.right.0);
         for row in behind..last {
-            if table.cell(row + 1, self.right.1) == cell {
+            if are_equal(table.cell(row + 1, self.right.1), cell) {
                 return row + 1;
             }
         }
@@ -86,4 +88,15 @@ fn up_to(last: u32, row: u32) -> u32
     ensures { result ≡ (if nat_le row last then row else 0) }
 {
     if row <= last { row } else { 0 }
+}
+
+/// Whether two cells are equal. `==` asks the same of two references, for which both cells have to be put into memory first.
+fn are_equal(cell: Cell<'_>, other: Cell<'_>) -> bool
+    ensures { IsTrue result ↔ (shown cell.entry ≡ shown other.entry) }
+{
+    match (cell, other) {
+        (Cell::Number(number), Cell::Number(other)) => number == other,
+        (Cell::Text(text), Cell::Text(other)) => text == other,
+        _ => false,
+    }
 }
