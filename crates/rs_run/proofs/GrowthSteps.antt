@@ -32,6 +32,12 @@ module _ (answer : Answering) (catalogue : CatalogDef) where
       let same : first ≡ held = cc in ap (λ (h : HeldView). (first.0, whole_view answer catalogue h.1.query) ∷ views) (sym same)
   set-up_to (first ∷ views) (suc i) held e = ap (λ rest. grown_view answer catalogue first ∷ rest) (set-up_to views i held e)
 
+  -- none goes away
+  pub length-up_to : (views : List HeldView) (i : ℕ) → length (grown_up_to answer catalogue i views) ≡ length views
+  length-up_to views zero = refl
+  length-up_to [] (suc i) = refl
+  length-up_to (first ∷ views) (suc i) = ap suc (length-up_to views i)
+
   -- all of them grew
   pub all-up_to : (views : List HeldView) (i : ℕ) → length views ≤ i → grown_up_to answer catalogue i views ≡ map (grown_view answer catalogue) views
   all-up_to views i all =
@@ -86,7 +92,7 @@ pub record At (views : List HeldView) (i : ℕ) (view : ViewDef) : Type 0 where
   pub there : slice_get views i ≡ Some held
   pub within : i < length views
   pub own : held ≡ get_or views i held
-  pub view : view ≡ held.1
+  pub same : view ≡ held.1
 
 at-place : (answer : Answering) (catalogue : CatalogDef) (views : List HeldView) (i : ℕ) (view : ViewDef)
     → slice_get (map (λ (h : HeldView). h.1) (grown_up_to answer catalogue i views)) i ≡ Some view → At views i view
@@ -95,10 +101,10 @@ at-place answer catalogue [] i view e = absurd (none-there i e) where
   none-there zero e = cc
   none-there (suc i) e = cc
 at-place answer catalogue (held ∷ views) zero view e =
-    record { held = held; there = refl; within = omega arith; own = refl; view = let same : held.1 ≡ view = cc in sym same }
+    record { held = held; there = refl; within = omega arith; own = refl; same = let same : held.1 ≡ view = cc in sym same }
 at-place answer catalogue (held ∷ views) (suc i) view e =
     let rest = at-place answer catalogue views i view e in
-    record { held = rest.held; there = rest.there; within = omega (arith, rest.within); own = rest.own; view = rest.view }
+    record { held = rest.held; there = rest.there; within = omega (arith, rest.within); own = rest.own; same = rest.same }
 
 pub held-at : (answer : Answering) (catalogue : CatalogDef) (views : List HeldView) (i : ℕ) (now : List HeldView) (view : ViewDef) → now ≡ grown_up_to answer catalogue i views
     → slice_get (map (λ (h : HeldView). h.1) now) i ≡ Some view → At views i view

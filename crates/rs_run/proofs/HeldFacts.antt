@@ -1,5 +1,5 @@
 -- The held views as a map by name: what a look-up, a removal and a new entry are to the list of views, and which of them stand.
-use Rattle.std.proofs.Common.{ℕ, ◌≡◌, ◌∙◌, Bool, true, false, cond, List, [], ◌∷◌, ◌++◌, zero, suc, length, take, eqb, eq-eqb, append-nil, refl, sym, ap, subst}
+use Rattle.std.proofs.Common.{ℕ, ◌≡◌, ◌∙◌, Bool, true, false, cond, List, [], ◌∷◌, ◌++◌, zero, suc, length, take, eqb, eq-eqb, append-nil, refl, sym, ap, subst, arith}
 use Rattle.std.specs.Prelude.{not, min, Option, Some, None, Result, Ok, Err, if◌then◌else◌, option_map, slice_get}
 use Rattle.std.specs.List.{AllByRecursion, filter}
 use Rattle.std.specs.Cmp.Lexicographic.{bytes_decides}
@@ -174,6 +174,8 @@ stand-step answer catalogue finds command step next views on all written does le
 
 -- the first ones of some items, where more are wanted than there are
 pub take-within : {A : Type 0} (n : ℕ) (xs : List A) → take (min n (length xs)) xs ≡ take n xs
-take-within zero xs = refl
-take-within (suc n) [] = refl
-take-within (suc n) (x ∷ xs) = ap (λ rest. x ∷ rest) (take-within n xs)
+take-within zero xs = let none : min 0 (length xs) ≡ 0 = omega arith in ap (λ (m : ℕ). take m xs) none
+take-within (suc n) [] = let none : min (suc n) 0 ≡ 0 = omega arith in ap (λ (m : ℕ). take m []) none
+take-within (suc n) (x ∷ xs) =
+    let more : min (suc n) (suc (length xs)) ≡ suc (min n (length xs)) = omega arith in
+    ap (λ (m : ℕ). take m (x ∷ xs)) more ∙ ap (λ rest. x ∷ rest) (take-within n xs)

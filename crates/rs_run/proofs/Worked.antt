@@ -349,7 +349,7 @@ unfolding chars is_utf8 encode_utf8 utf8_valid_len
 source_not_utf8_behind_mark = refl
 
 -- the line of words of no form
-line_of_usage : run_fault_line Usage ≡ codes "usage: ranksql top FILE COLUMN MAX K, run SCRIPT SEED, plain SCRIPT, gen NUMBER ROWS, ta SCRIPT, feed LEFT RIGHT K, cert LEFT RIGHT K, check FILE\n"
+line_of_usage : run_fault_line Usage ≡ codes "usage: ranksql top FILE COLUMN MAX K, run SCRIPT SEED, plain SCRIPT, gen NUMBER ROWS, ta SCRIPT, feed LEFT RIGHT K, cert LEFT RIGHT K, check FILE, view SCRIPT\n"
 line_of_usage = refl
 
 -- the status of each

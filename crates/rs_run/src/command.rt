@@ -128,7 +128,7 @@ fn obey<F: Files, S: Scorer, O: Sink>(
     scorer: &mut S,
     out: &mut O,
 ) -> Result<(), RunFault>
-    requires { HasCertCount (form_of_command_line command.entry) }
+    requires { HasCertCount (form_of_command_line command) }
     ensures does { (beside : Environment) → Runs run_faults
         (IsFormRun (finds_in (F.state files.old).told) (S.state scorer.old).answer (form_of_command_line command.entry)) result
         (record beside { files = F.state files.old; scorer = S.state scorer.old; out = O.state out.old })

@@ -9,7 +9,7 @@ ghost use Rattle.rs_bind.specs.Inserts.{IsInsert};
 ghost use Rattle.rs_events.specs.Environment.{Environment};
 ghost use Rattle.rs_events.specs.Events.{finds_in};
 ghost use Rattle.rs_events.specs.Running.{Runs, Stepped};
-ghost use Rattle.rs_statement.specs.Parts.Steps as statement;
+ghost use Rattle.rs_statement.specs.Parts.Steps as steps;
 ghost use Rattle.rs_run.specs.Faults.{run_faults};
 ghost use Rattle.rs_run.specs.Parts.Holding.{AllStand, IsKept, kept_of, views_in};
 ghost use Rattle.rs_run.specs.Plain.{TextRuns};
@@ -239,7 +239,7 @@ fn run_kept<T: TableReader, W: Host>(
     requires written { IsWritten (command_of statement.now) }
     requires indexes { IndexesHold (W.state host.old).scorer.answer catalog.old }
     requires stand { AllStand (W.state host.old).scorer.answer catalog.old (views_in held.old) }
-    ensures does { statement.Stepped
+    ensures does { steps.Stepped
         (DoesKept (finds_in (W.state host.old).files.told) (W.state host.old).scorer.answer (kept_of catalog.old (views_in held.old)) (command_of statement.now))
         (kept_of catalog.new (views_in held.new)) result (W.state host.old) (W.state host.new) }
     ensures indexes { IfOk result (λ _. IndexesHold (W.state host.old).scorer.answer catalog.new) }
@@ -268,7 +268,7 @@ fn insert_and_grow<S: Scorer>(
     requires written { IsWritten (command_of statement.now) }
     requires indexes { IndexesHold (S.state scorer.old).answer catalog.old }
     requires stand { AllStand (S.state scorer.old).answer catalog.old (views_in held.old) }
-    ensures does { (beside : Environment) → statement.Stepped
+    ensures does { (beside : Environment) → steps.Stepped
         (DoesKept (finds_in beside.files.told) (S.state scorer.old).answer (kept_of catalog.old (views_in held.old)) (command_of statement.now))
         (kept_of catalog.new (views_in held.new)) result
         (record beside { scorer = S.state scorer.old }) (record beside { scorer = S.state scorer.new }) }

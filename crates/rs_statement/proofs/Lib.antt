@@ -7,8 +7,8 @@ mod PrintFacts
 pub mod StepFacts
 mod IndexSteps
 mod InsertSteps
-mod QuerySteps
-mod SampleSteps
+pub mod QuerySteps
+pub mod SampleSteps
 mod PlanSteps
 mod NamedFacts
 mod CursorSteps
@@ -25,5 +25,5 @@ pub mod OneStep
 pub mod SameFetches
 pub mod SamePuts
 pub mod LargerRows
-mod SessionFacts
+pub mod SessionFacts
 pub mod SessionSteps

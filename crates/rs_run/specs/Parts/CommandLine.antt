@@ -23,9 +23,9 @@ form_of_command_line (command.Threshold script) = Threshold script.now
 form_of_command_line (command.Feed feed) = Feed (feed_words_of feed)
 form_of_command_line (command.Certify feed) = Certify (feed_words_of feed)
 form_of_command_line (command.Check file) = Check file.now
+form_of_command_line (command.Views script) = Views script.now
 
 -- of a certificate at most so many pairs are wanted as can be
 abbrev pub HasCertCount : Form → Type 0
 HasCertCount (Certify words) = words.count ≤ most_wanted
 HasCertCount _ = Unit {0}
-form_of_command_line (command.Views script) = Views script.now

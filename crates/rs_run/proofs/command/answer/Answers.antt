@@ -17,5 +17,5 @@ returns-in-Some-clause-does g c = λ beside.
     (record beside { files = g.F.Files.state c.obey.new.files; scorer = g.S.Scorer.state c.obey.new.scorer; out = g.O.Sink.state c.obey.new.out })
     (sym c.in-Some.ensures) (c.obey.ensures.does beside)
 
-pub obey-requires-in-Some : goal.obey-requires-in-Some
-obey-requires-in-Some g c = cert-count c.args.words.now (form_of_command_line c.in-Some.command) (sym c.in-Some.ensures)
+pub obey-requires : goal.obey-requires
+obey-requires g c = cert-count c.args.words.now (form_of_command_line c.in-Some.command) (sym c.in-Some.ensures)

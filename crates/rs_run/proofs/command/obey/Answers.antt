@@ -67,8 +67,8 @@ returns-in-Feed g c = rw c.in-Feed.is (record {
   unfetched = λ number rows generated. absurd cc;
 })
 
-pub cert-requires-in-Certify : goal.cert-requires-in-Certify
-cert-requires-in-Certify g c = subst (λ command. HasCertCount (form_of_command_line command)) c.in-Certify.is c.requires
+pub cert-requires : goal.cert-requires
+cert-requires g c = subst (λ command. HasCertCount (form_of_command_line command)) c.in-Certify.is c.requires
 
 pub returns-in-Certify : goal.returns-in-Certify
 returns-in-Certify g c = rw c.in-Certify.is (record {

@@ -34,7 +34,7 @@ grow_views-requires g c =
     let next = c.insert_rows.new.catalog in
     let finds = finds_in (around old).files.told in
     let joined = c.in_ok-insert_rows.ensures.does (around old) in
-    subst (λ answer. AllStand answer next views) joined.ran.keeps.scorer.answer
+    subst (λ answer. AllStand answer next views) (sym joined.ran.keeps.scorer.answer)
     (stand-step old.answer catalogue finds command joined.step next views (c.views_go_on_to_stand.ensures old.answer) c.requires.stand c.requires.written
     (insert-does finds old.answer catalogue command joined.step c.requires.form joined.does) joined.leaves)
 
@@ -71,9 +71,9 @@ returns g c =
           c.grow_views.result (record beside { scorer = old }) (record beside { scorer = g.S.Scorer.state c.insert_rows.new.scorer }) (record beside { scorer = g.S.Scorer.state c.grow_views.new.scorer })
           (c.in_ok-insert_rows.ensures.does beside)
           (subst (λ answer. Stepped (λ step. step ≡ grown_step answer next views) left c.grow_views.result (record beside { scorer = g.S.Scorer.state c.insert_rows.new.scorer })
-          (record beside { scorer = g.S.Scorer.state c.grow_views.new.scorer })) (sym same) (c.grow_views.ensures.grows beside));
+          (record beside { scorer = g.S.Scorer.state c.grow_views.new.scorer })) same (c.grow_views.ensures.grows beside));
       indexes = if-ok c.grow_views.result (IndexesHold old.answer next)
           (held-step old.answer catalogue finds Plainly command joined.step next c.requires.indexes c.requires.written
           (insert-does finds old.answer catalogue command joined.step c.requires.form joined.does) joined.leaves);
-      stand = subst (λ answer. IfOk c.grow_views.result (λ _. AllStand answer next (views_in c.grow_views.new.held))) (sym same) c.grow_views.ensures.stand;
+      stand = subst (λ answer. IfOk c.grow_views.result (λ _. AllStand answer next (views_in c.grow_views.new.held))) same c.grow_views.ensures.stand;
     }

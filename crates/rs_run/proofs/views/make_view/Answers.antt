@@ -19,7 +19,7 @@ use Rattle.rs_run.proofs.HeldFacts.{stand-append}
 use Rattle.rs_run.proofs.views.make_view.Goals as goal
 
 pub query_fault-requires : goal.query_fault-requires
-query_fault-requires g c = (c.args.query, c.in-Err-2.ensures.names)
+query_fault-requires g c = (c.args.query, c.in-Err-make.ensures.names)
 
 -- the name can't be held
 pub returns-in-Err : goal.returns-in-Err
@@ -32,8 +32,8 @@ returns-in-Err g c =
     }
 
 -- a call was bad or failed
-pub returns-in-Err-2 : goal.returns-in-Err-2
-returns-in-Err-2 g c =
+pub returns-in-Err-make : goal.returns-in-Err-make
+returns-in-Err-make g c =
     let before = g.S.Scorer.state c.args.scorer.now in
     let after = g.S.Scorer.state c.make.new.scorer in
     let catalogue = c.args.catalog.now in
@@ -42,21 +42,21 @@ returns-in-Err-2 g c =
           let old = record beside { scorer = before } in
           Stepped-bound (λ room. made_step before.answer c.args.name.now kept c.args.query) (room_for_view c.args.name.now (views_in c.args.held.now)) tt kept (Err c.query_fault.result) old
           (record beside { scorer = after }) c.in-Ok.ensures.gives
-          (Stepped-unasked (λ made. []) (made_outcome c.args.name.now kept) plain.Memory (making before.answer catalogue c.args.query) kept old after (query_fault catalogue) c.in-Err-2.why
-          c.query_fault.result refl refl refl (Probes-questions plain_faults (query_fault catalogue) catalogue (λ number. refl) _) c.in-Err-2.ensures.makes c.query_fault.ensures);
+          (Stepped-unasked (λ made. []) (made_outcome c.args.name.now kept) plain.Memory (making before.answer catalogue c.args.query) kept old after (query_fault catalogue) c.in-Err-make.why
+          c.query_fault.result refl refl refl (Probes-questions plain_faults (query_fault catalogue) catalogue (λ number. refl) _) c.in-Err-make.ensures.makes c.query_fault.ensures);
       stand = tt;
     }
 
 -- there was no memory to hold it
-pub returns-in_err-hold : goal.returns-in_err-hold
-returns-in_err-hold g c =
+pub returns-in_err-hold-in-Ok-make : goal.returns-in_err-hold-in-Ok-make
+returns-in_err-hold-in-Ok-make g c =
     let before = g.S.Scorer.state c.args.scorer.now in
     let after = g.S.Scorer.state c.make.new.scorer in
     let catalogue = c.args.catalog.now in
     let views = views_in c.args.held.now in
     let kept = kept_of catalogue views in
     let name = c.args.name.now in
-    let made = with_view name c.in-Ok-2.view kept in
+    let made = with_view name c.in-Ok-make.view kept in
     let left = kept_of catalogue (views_in c.hold.new.held) in
     rw (given-err c.from_residual.result fault.Memory c.from_residual.ensures) (record {
       makes = λ beside.
@@ -64,14 +64,14 @@ returns-in_err-hold g c =
           let new = record beside { scorer = after } in
           Stepped-bound (λ room. made_step before.answer name kept c.args.query) (room_for_view name views) tt left (Err fault.Memory) old new c.in-Ok.ensures.gives
           (Stepped-left _ made left (Err fault.Memory) old new tt
-          (Stepped-asked (λ made. []) (made_outcome name kept) plain.Memory (making before.answer catalogue c.args.query) made old after c.in-Ok-2.view (Err fault.Memory) new refl c.in-Ok-2.ensures.makes
+          (Stepped-asked (λ made. []) (made_outcome name kept) plain.Memory (making before.answer catalogue c.args.query) made old after c.in-Ok-make.view (Err fault.Memory) new refl c.in-Ok-make.ensures.makes
           (Ran-first (lines_run []) new)));
       stand = tt;
     })
 
 -- it is the last one
-pub returns : goal.returns
-returns g c =
+pub returns-in_ok-hold-in-Ok-make : goal.returns-in_ok-hold-in-Ok-make
+returns-in_ok-hold-in-Ok-make g c =
     let before = g.S.Scorer.state c.args.scorer.now in
     let after = g.S.Scorer.state c.make.new.scorer in
     let catalogue = c.args.catalog.now in
@@ -82,8 +82,8 @@ returns g c =
           let old = record beside { scorer = before } in
           let new = record beside { scorer = after } in
           Stepped-bound (λ room. made_step before.answer c.args.name.now kept c.args.query) (room_for_view c.args.name.now views) tt (kept_of catalogue left) (Ok tt) old new c.in-Ok.ensures.gives
-          (Stepped-asked (λ made. []) (made_outcome c.args.name.now kept) plain.Memory (making before.answer catalogue c.args.query) (kept_of catalogue left) old after c.in-Ok-2.view (Ok tt) new
-          (ap (λ (held : List HeldView). Ok (kept_of catalogue held)) (sym c.in_ok-hold.ensures.ok)) c.in-Ok-2.ensures.makes (Ran-all (lines_run []) (Ok tt) new new (HasDone-none new) refl));
-      stand = subst (AllStand before.answer catalogue) (sym c.in_ok-hold.ensures.ok)
-          (stand-append before.answer catalogue views c.args.name.now c.in-Ok-2.view c.requires.stand (subst (λ answer. Stands answer catalogue c.in-Ok-2.view) c.in-Ok-2.ensures.makes.keeps.answer c.in-Ok-2.ensures.stands));
+          (Stepped-asked (λ made. []) (made_outcome c.args.name.now kept) plain.Memory (making before.answer catalogue c.args.query) (kept_of catalogue left) old after c.in-Ok-make.view (Ok tt) new
+          (ap (λ (held : List HeldView). Ok (kept_of catalogue held)) (sym c.in_ok-hold-in-Ok-make.ensures.ok)) c.in-Ok-make.ensures.makes (Ran-all (lines_run []) (Ok tt) new new (HasDone-none new) refl));
+      stand = subst (AllStand before.answer catalogue) (sym c.in_ok-hold-in-Ok-make.ensures.ok)
+          (stand-append before.answer catalogue views c.args.name.now c.in-Ok-make.view c.requires.stand (subst (λ answer. Stands answer catalogue c.in-Ok-make.view) c.in-Ok-make.ensures.makes.keeps.answer c.in-Ok-make.ensures.stands));
     }
