@@ -2,7 +2,6 @@
 use Rattle.std.proofs.Common.{ℕ, ◌≡◌, ◌∙◌, Bool, true, false, cond, List, [], ◌∷◌, ◌++◌, zero, suc, length, take, eqb, eq-eqb, append-nil, refl, sym, ap, subst, arith}
 use Rattle.std.specs.Prelude.{not, min, Option, Some, None, Result, Ok, Err, if◌then◌else◌, option_map, slice_get}
 use Rattle.std.specs.List.{AllByRecursion, filter}
-use Rattle.std.specs.Cmp.Lexicographic.{bytes_decides}
 use Rattle.std.specs.Map.{keys_of, lookup, remove_entry}
 use Rattle.std.specs.Str.{bytes_eq}
 use Rattle.indexmap.specs.IndexMap.{set_value_at}

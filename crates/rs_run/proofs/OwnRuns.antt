@@ -321,10 +321,10 @@ OwnOutcome-declared answer number kept name query = go (bound_query kept.catalog
 Own-view_named : (name : List ℕ) (views : List HeldView) → Own (view_named name views)
 unfolding Own IsOwn
 Own-view_named name [] = tt
-Own-view_named name (held ∷ views) = go (bytes_eq held.0 name) where
-  go : (b : Bool) → Own (if b then Ok held.1 else view_named name views)
-  go true = tt
-  go false = Own-view_named name views
+Own-view_named name (held ∷ views) = go (bytes_eq held.0 name) (Own-view_named name views) where
+  go : (b : Bool) → Own (view_named name views) → Own (if b then Ok held.1 else view_named name views)
+  go true own = tt
+  go false own = own
 
 Own-fetched : (kept : Kept) (count : ℤ × Span) (name : Name) → Own (fetched_rows kept count name)
 unfolding Own

@@ -1,5 +1,5 @@
 -- What the statements of a script did whose queries are kept as views, from what their parts did.
-use Rattle.std.proofs.Common.{ℕ, ℤ, suc, ◌≡◌, ◌∙◌, List, Bool, true, false, Some, None, refl, sym, ap, subst, inl, inr}
+use Rattle.std.proofs.Common.{ℕ, ℤ, suc, ◌≡◌, ◌∙◌, List, Bool, true, false, refl, sym, ap, subst, inl, inr}
 use Rattle.std.specs.Prelude.{IfOk, Option, Result, Ok, Err, if◌then◌else◌}
 use Rattle.rs_value.specs.Answer.{Gives}
 use Rattle.rs_value.specs.Results.{◌>>=◌}
@@ -13,7 +13,6 @@ use Rattle.rs_syntax.specs.declared.statement.Statement as syntax_statement
 use Rattle.rs_syntax.specs.declared.statement.Statement.TheVariants as syntax_variants
 use Rattle.rs_expr.specs.Scoring.{Answering}
 use Rattle.rs_catalog.specs.Catalog.{CatalogDef}
-use Rattle.rs_query.specs.declared.block.Block.{Block}
 use Rattle.rs_query.specs.declared.query.Query.{Query}
 use Rattle.rs_query.specs.declared.query.Query.TheVariants.{One, Set}
 use Rattle.rs_view.specs.Views.{IsKeepable}
@@ -21,7 +20,7 @@ use Rattle.rs_events.specs.Environment.{Environment}
 use Rattle.rs_events.specs.Events.{Event, Finds, fetches, finds_in}
 use Rattle.rs_events.specs.Run.{Run}
 use Rattle.rs_events.specs.Running.{HasDone, Ran, Stepped}
-use Rattle.rs_events.specs.Sequence.{Step, run_of, still, then_step}
+use Rattle.rs_events.specs.Sequence.{Step, run_of, still}
 use Rattle.rs_events.proofs.SteppedFacts.{Stepped-map, Stepped-no_memory, Stepped-still, step_of}
 use Rattle.rs_statement.specs.declared.evaluating.Evaluating.TheVariants.{Plainly}
 use Rattle.rs_statement.specs.declared.fault.Fault.{Fault}

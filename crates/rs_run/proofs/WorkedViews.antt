@@ -1,8 +1,7 @@
 -- The definitions of the word `view`, computed on examples.
-use Rattle.std.proofs.Common.{ℕ, ◌≡◌, List, [], ◌∷◌, Some, None, false, refl}
+use Rattle.std.proofs.Common.{ℕ, ◌≡◌, List, [], ◌∷◌, Some, None, refl}
 use Rattle.std.specs.Prelude.{codes, Err, Ok}
 use Rattle.std.specs.Fmt.{digits}
-use Rattle.rs_rank.specs.declared.answer.Answer.{Answer}
 use Rattle.rs_syntax.specs.declared.name.Name.{Name}
 use Rattle.rs_syntax.specs.Syntax.{Explain}
 use Rattle.rs_syntax.specs.Syntax as syntax
@@ -11,14 +10,14 @@ use Rattle.rs_catalog.specs.Catalog.{empty}
 use Rattle.rs_query.specs.declared.query.Query.{Query}
 use Rattle.rs_view.specs.Views.{ViewDef}
 use Rattle.rs_events.specs.Events.{Finds}
-use Rattle.rs_events.specs.Sequence.{lines_step, still}
+use Rattle.rs_events.specs.Sequence.{still}
 use Rattle.rs_statement.specs.declared.fault.Fault.TheVariants.{Session}
 use Rattle.rs_statement.specs.declared.fault.SessionFault.TheVariants.{NameTaken, Unknown}
 use Rattle.rs_run.specs.declared.fault.RunFault.TheVariants.{NotEligible}
 use Rattle.rs_run.specs.declared.fault.ScriptWord.TheVariants.{View}
 use Rattle.rs_run.specs.declared.status.Status.TheVariants as status
 use Rattle.rs_run.specs.Faults.{run_fault_line, status_of}
-use Rattle.rs_run.specs.Viewing.{DoesByViews, HeldView, Kept, close_outcome, fetch_step, room_for_view, view_named}
+use Rattle.rs_run.specs.Viewing.{DoesByViews, HeldView, Kept, close_outcome, room_for_view, view_named}
 use Rattle.rs_run.specs.Words.{Views, form_of}
 
 -- the words `view s`, and no more of them

@@ -10,7 +10,7 @@ use Rattle.rs_events.specs.Environment.{Environment, environment}
 use Rattle.rs_events.specs.Events.{finds_in}
 use Rattle.rs_statement.specs.Parts.Steps.{Stepped}
 use Rattle.rs_statement.specs.Inserts.{insert_step}
-use Rattle.rs_statement.specs.Statements.{Does, or_bind_fault, refused_or}
+use Rattle.rs_statement.specs.Statements.{or_bind_fault, refused_or}
 use Rattle.rs_statement.specs.declared.evaluating.Evaluating.TheVariants.{Plainly}
 use Rattle.rs_statement.proofs.HeldSteps.{held-step}
 use Rattle.rs_statement.proofs.SessionSteps.{if-ok}

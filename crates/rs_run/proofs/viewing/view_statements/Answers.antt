@@ -1,4 +1,4 @@
-use Rattle.std.proofs.Common.{◌≡◌, List, [], refl, sym, subst, suc, ◌+◌, drop, arith}
+use Rattle.std.proofs.Common.{◌≡◌, refl, sym, subst, suc, ◌+◌, drop, arith}
 use Rattle.std.specs.Prelude.{Err, Ok}
 use Rattle.rs_syntax.specs.Syntax.{command_of, commands_of}
 use Rattle.rs_catalog.specs.IndexesHold.{IndexesHold}
@@ -6,7 +6,7 @@ use Rattle.rs_events.specs.Events.{finds_in}
 use Rattle.rs_events.proofs.LoopFacts.{Between, Between-next, Between-start, Runs-all, Runs-stops, drop-all, drop-at}
 use Rattle.rs_statement.proofs.StatementFacts.{written-at}
 use Rattle.rs_run.specs.Parts.Holding.{AllStand, kept_of, views_in}
-use Rattle.rs_run.specs.Viewing.{DoesNextByViews, HeldView, ViewState, first_view_statement}
+use Rattle.rs_run.specs.Viewing.{DoesNextByViews, ViewState, first_view_statement}
 use Rattle.rs_run.proofs.EachFacts.{each_next_by_views, finds_in-has}
 use Rattle.rs_run.proofs.ViewSteps.{Stepped-next_view}
 use Rattle.rs_run.proofs.viewing.view_statements.Goals as goal

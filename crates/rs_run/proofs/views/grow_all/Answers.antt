@@ -1,5 +1,4 @@
 use Rattle.std.proofs.Common.{ℕ, List, ◌≡◌, ◌∙◌, ◌+◌, ◌<◌, ◌≤◌, drop, length, map, suc, take, arith, refl, sym, ap, subst}
-use Rattle.std.specs.Prelude.{Ok, Some, slice_get}
 use Rattle.std.specs.List.{flat_map}
 use Rattle.std.proofs.lemmas.Bool.{false≢true}
 use Rattle.std.proofs.lemmas.List.{take_all}
@@ -12,7 +11,7 @@ use Rattle.rs_query.proofs.QuestionFacts.{AllAsked, AllAsked-more, AllAsked-none
 use Rattle.indexmap.specs.IndexMap.{set_value_at}
 use Rattle.rs_view.specs.Fresh.{whole_view}
 use Rattle.rs_view.specs.Views.{Stands, ViewDef}
-use Rattle.rs_run.specs.Parts.Holding.{AllStand, as_all_grown}
+use Rattle.rs_run.specs.Parts.Holding.{as_all_grown}
 use Rattle.rs_run.specs.Viewing.{HeldView, grown_view, growth_questions}
 use Rattle.rs_run.proofs.GrowthSteps.{all-up_to, grown_up_to, held-at, length-up_to, set-up_to, stand-at}
 use Rattle.rs_run.proofs.HeldFacts.{stand-set}
