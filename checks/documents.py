@@ -229,7 +229,7 @@ def examples(folder):
                 comments = " ".join(line[2:].strip() for line in script.read().splitlines() if line.startswith("--"))
             output = name[:-len(".sql")] + ".out"
             says = re.search(re.escape(os.path.basename(output)) + r" is what (.*?)\. ?(?=[A-Z]|$)", comments)
-            commands = re.findall(r"`(\./ranksql (?:plain|run|ta) [^`]+)`", says[1]) if says else []
+            commands = re.findall(r"`(\./ranksql (?:plain|run|ta|view) [^`]+)`", says[1]) if says else []
             tell(bool(commands), f"{name} says which word made {os.path.basename(output)}")
             with open(os.path.join(ROOT, output), encoding="utf-8") as wanted:
                 text = wanted.read()

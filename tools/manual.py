@@ -159,6 +159,8 @@ def page():
         "order of the rows needs. Both print the same rows in the same order.",
         "\\fBta\\fR answers queries over one table by threshold scans of its rank indexes, and says how many accesses each scan made.",
         "\\fBfeed\\fR joins two files that are ranked already, and draws no row of either that its pairs don't need.",
+        "\\fBcert\\fR prints the rows that it drew with the answer, and \\fBcheck\\fR says whether they prove it.",
+        "\\fBview\\fR keeps the first rows of its queries up to date while rows join their tables, and calls predicates for new combinations alone.",
         ".SH WORDS",
         *entries(meanings),
         ".SH STATEMENTS",

@@ -1,16 +1,19 @@
 -- What is written of a certificate is read back.
-use Rattle.std.proofs.Common.{◌≡◌, ℕ, ◌+◌, ◌≤◌, ◌<◌, pos, Bool, true, false, cond, List, [], ◌∷◌, ◌++◌, codes, get_or, length, map, take, Some, None, option_map, refl, sym, ap, ap₂, ◌∙◌, subst, arith, append_assoc}
+use Rattle.std.proofs.Common.{◌≡◌, ℕ, ◌+◌, ◌≤◌, ◌<◌, pos, Bool, true, false, cond, List, [], ◌∷◌, ◌++◌, codes, get_or, length, map, take, Some, None, option_map, Result, Ok, Err, IfOk, refl, sym, ap, ap₂, ◌∙◌, subst, arith, append_assoc}
 use Rattle.std.proofs.lemmas.List.{append-nil, map-append, take_more}
 use Rattle.std.proofs.lemmas.List.Concat.{flat_map-append}
 use Rattle.std.specs.Cmp.Lexicographic.{bytes_decides}
 use Rattle.std.specs.Fmt.{decimal}
 use Rattle.std.specs.List.{AllByRecursion}
 use Rattle.std.specs.Str.{bytes_eq}
+use Rattle.std.specs.declared.alloc.Global.{Global}
+use Rattle.std.specs.declared.vec.Vec.{Vec}
 use Rattle.csv.specs.Reading.{default_config, records, strip_bom}
 use Rattle.csv.specs.Writing.{default_writer, read_back, row_text}
 use Rattle.rs_feed.specs.declared.feed_row.FeedRow.{FeedRow}
 use Rattle.rs_order.proofs.EachFacts.{each-append}
 use Rattle.rs_value.specs.Number.{int_value}
+use Rattle.rs_value.specs.declared.memory.Memory.{Memory}
 use Rattle.rs_cert.specs.declared.cert.Cert.{Cert}
 use Rattle.rs_cert.specs.declared.cert.CertSide.{CertSide}
 use Rattle.rs_cert.specs.declared.entry.Entry.{Entry}
@@ -140,6 +143,16 @@ pub written-back : (cert : Cert) (bytes : List ℕ) → bytes ≡ written cert �
     → AreRecordsOf cert (records_of bytes)
 written-back cert bytes are wanted few lefts rights pairs =
     subst (AreRecordsOf cert) (sym (ap records_of are ∙ written-records cert)) (written-are cert wanted few lefts rights pairs)
+
+-- the same of bytes that may not be there
+pub same-ok : (want : List ℕ) (result : Result (Vec ℕ Global) Memory) (text : List ℕ) → text ≡ want → IfOk result (λ bytes. bytes.items ≡ text) → IfOk result (λ bytes. bytes.items ≡ want)
+same-ok want (Ok bytes) text are is = is ∙ are
+same-ok want (Err memory) text are is = tt
+
+pub back-ok : (cert : Cert) (result : Result (Vec ℕ Global) Memory) → IfOk result (λ bytes. bytes.items ≡ written cert) → cert.k ≤ most_wanted → HasFewRows cert → AreWritableRows cert.left.rows
+    → AreWritableRows cert.right.rows → AreWritablePairs cert.pairs → IfOk result (λ bytes. AreRecordsOf cert (records_of bytes.items))
+back-ok cert (Ok bytes) are wanted few lefts rights pairs = written-back cert bytes.items are wanted few lefts rights pairs
+back-ok cert (Err memory) are wanted few lefts rights pairs = tt
 
 -- one record more that is written
 text-one : (front : List Fields) (fields : Fields) → text_of (front ++ fields ∷ []) ≡ text_of front ++ row_text default_writer fields

@@ -8,4 +8,5 @@ pub mod Records
 pub mod Rows
 pub mod Sound
 pub mod Verdicts
+pub mod Writers
 pub mod Written

@@ -224,29 +224,19 @@ low-one : (catalogue : CatalogDef) (block : Block) (maxima : List ℕ) (terms : 
 low-one catalogue block maxima [] low = tt
 low-one catalogue block maxima (t ∷ ts) low = (low.0, low-one catalogue block maxima ts low.1)
 
-low-left : (catalogue : CatalogDef) (left right : Block) (maxima : List ℕ) (xs ys : List Term) → AreSameTerms left right xs ys
+low-both : (catalogue : CatalogDef) (left right : Block) (maxima : List ℕ) (xs ys : List Term) → AreSameTerms left right xs ys
     → AllByRecursion (λ (t : Term). top_of catalogue left t ≤ (predicate_at catalogue t.predicate).max) xs
     → AllByRecursion (λ (t : Term). top_of catalogue right t ≤ (predicate_at catalogue t.predicate).max) ys
     → AreLow catalogue left maxima (greater_of (map (top_of catalogue left) xs) (map (top_of catalogue right) ys)) xs
-low-left catalogue left right maxima [] ys same low other = tt
-low-left catalogue left right maxima (x ∷ xs) [] same low other = absurd same
-low-left catalogue left right maxima (x ∷ xs) (y ∷ ys) same low other =
+    × AreLow catalogue right maxima (greater_of (map (top_of catalogue left) xs) (map (top_of catalogue right) ys)) ys
+low-both catalogue left right maxima [] ys same low other = (tt, tt)
+low-both catalogue left right maxima (x ∷ xs) [] same low other = absurd same
+low-both catalogue left right maxima (x ∷ xs) (y ∷ ys) same low other =
     let predicate = ap (λ n. (predicate_at catalogue n).max) same.0.predicate in
     let own = low.0 in
     let others = other.0 in
-    (omega arith, low-left catalogue left right maxima xs ys same.1 low.1 other.1)
-
-low-right : (catalogue : CatalogDef) (left right : Block) (maxima : List ℕ) (xs ys : List Term) → AreSameTerms left right xs ys
-    → AllByRecursion (λ (t : Term). top_of catalogue left t ≤ (predicate_at catalogue t.predicate).max) xs
-    → AllByRecursion (λ (t : Term). top_of catalogue right t ≤ (predicate_at catalogue t.predicate).max) ys
-    → AreLow catalogue right maxima (greater_of (map (top_of catalogue left) xs) (map (top_of catalogue right) ys)) ys
-low-right catalogue left right maxima [] ys same low other = tt
-low-right catalogue left right maxima (x ∷ xs) [] same low other = absurd same
-low-right catalogue left right maxima (x ∷ xs) (y ∷ ys) same low other =
-    let predicate = ap (λ n. (predicate_at catalogue n).max) same.0.predicate in
-    let own = low.0 in
-    let others = other.0 in
-    (omega arith, low-right catalogue left right maxima xs ys same.1 low.1 other.1)
+    let behind = low-both catalogue left right maxima xs ys same.1 low.1 other.1 in
+    ((omega arith, behind.0), (omega arith, behind.1))
 
 -- no top passes the greatest score of the predicate
 top-low : (catalogue : CatalogDef) (block : Block) (term : Term) → top_of catalogue block term ≤ (predicate_at catalogue term.predicate).max
@@ -271,10 +261,11 @@ formed-tops catalogue (One block limit) is = (
   is.2,
 )
 formed-tops catalogue (Set op left right limit) is =
-    let maxima = set_tops catalogue left right in (
+    let maxima = set_tops catalogue left right in
+    let low = low-both catalogue left right maxima left.terms right.terms is.0.terms (all-low catalogue left) (all-low catalogue right) in (
       record {
-        left_block = block-bounded catalogue left maxima (low-left catalogue left right maxima left.terms right.terms is.0.terms (all-low catalogue left) (all-low catalogue right)) is.0.left_block;
-        right_block = block-bounded catalogue right maxima (low-right catalogue left right maxima left.terms right.terms is.0.terms (all-low catalogue left) (all-low catalogue right)) is.0.right_block;
+        left_block = block-bounded catalogue left maxima low.0 is.0.left_block;
+        right_block = block-bounded catalogue right maxima low.1 is.0.right_block;
         kinds = is.0.kinds;
         terms = same-bounded left right maxima maxima left.terms right.terms is.0.terms;
       },

@@ -13,7 +13,7 @@ use Rattle.rs_rank.specs.Masks.{has_number, mask_of}
 use Rattle.rs_catalog.specs.Catalog.{CatalogDef}
 use Rattle.rs_query.specs.declared.block.Block.{Block}
 use Rattle.rs_query.specs.declared.step.Step.{Step}
-use Rattle.rs_query.specs.declared.step.Tie.{Tie}
+use Rattle.rs_query.specs.declared.tie.Tie.{Tie}
 use Rattle.rs_query.specs.Choices.{AgreeOn, IsChoice}
 use Rattle.rs_query.specs.Combinations.{holds_inside, satisfies}
 use Rattle.rs_query.specs.Conjuncts.{ConjunctDef}
@@ -69,8 +69,8 @@ module _ (catalogue : CatalogDef) (block : Block) (is : IsBlock catalogue block)
       let c = tied.equated.conjunct in
       let is_conjunct = AllByRecursion-In (IsConjunct catalogue block) block.conjuncts is.conjuncts c tied.equated.is_in in
       let holds = combination-holds rows combination c tied.equated.is_in in
-      let left_kind = kinds tie.left tied.left tied.rows.left_kind in
-      let right_kind = kinds tie.right tied.right tied.rows.right_kind in
+      let left_kind = kinds tie.left tied.left tied.left_kind in
+      let right_kind = kinds tie.right tied.right tied.right_kind in
       elim tied.equated.is_by.is_equality [
         | inl e ↦ equality-same catalogue block rows c is_conjunct tie.left tie.right e left_kind right_kind holds
         | inr e ↦ sym (equality-same catalogue block rows c is_conjunct tie.right tie.left e right_kind left_kind holds)

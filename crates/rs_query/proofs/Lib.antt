@@ -17,6 +17,7 @@ pub mod HoldNewFacts
 pub mod IndexTermFacts
 pub mod KeptCombinations
 pub mod KeyFacts
+pub mod KindFacts
 pub mod LentFacts
 pub mod LimitFacts
 pub mod ListFacts

@@ -24,6 +24,34 @@ IsNext-further is behind last found not next = record {
 pub IsNext-none : (is : ℕ → Type 0) (behind last : ℕ) → last ≤ behind → IsNext is behind last 0
 IsNext-none is behind last end = record { there = λ some. absurd (omega arith); first = λ other above below also. absurd (omega arith) }
 
+-- it is so of none of the rows behind one up to another
+abbrev pub IsNone : (ℕ → Type 0) → ℕ → ℕ → Type 0
+IsNone is behind row = (other : ℕ) → behind < other → other ≤ row → is other → ⊥
+
+-- nor of one row more
+pub IsNone-more : (is : ℕ → Type 0) (behind row : ℕ) → IsNone is behind row → (is (row + 1) → ⊥) → IsNone is behind (row + 1)
+IsNone-more is behind row none not other above below also = elim (cases_lt row other) [
+  | inl further ↦ not (subst is (let same : other ≡ row + 1 = omega arith in same) also)
+  | inr within ↦ none other above within also
+]
+
+-- the row right behind these is the next one where it is so of that
+pub IsNext-found : (is : ℕ → Type 0) (behind last row : ℕ) → IsNone is behind row → behind ≤ row → row + 1 ≤ last → is (row + 1) → IsNext is behind last (row + 1)
+IsNext-found is behind last row none above within so = record {
+  there = λ some. (let more : behind < row + 1 = omega arith in more, within, so);
+  first = λ other behind_other below also. elim (cases_lt row other) [
+    | inl further ↦ (let some : 1 ≤ row + 1 = omega arith in some, omega arith)
+    | inr before ↦ absurd (none other behind_other before also)
+  ];
+}
+
+-- and there is none where they are all up to the last one
+pub IsNext-absent : (is : ℕ → Type 0) (behind last row : ℕ) → IsNone is behind row → last ≤ row → IsNext is behind last 0
+IsNext-absent is behind last row none end = record {
+  there = λ some. absurd (omega arith);
+  first = λ other above below also. absurd (none other above (omega arith) also);
+}
+
 -- the same of another test that says the same of the rows in range
 pub IsNext-same : (is other : ℕ → Type 0) (behind last found : ℕ) → ((row : ℕ) → behind < row → row ≤ last → is row → other row)
     → ((row : ℕ) → behind < row → row ≤ last → other row → is row) → IsNext is behind last found → IsNext other behind last found

@@ -1,6 +1,6 @@
--- Rows of equal cells: from keys that stand for the cells, and as the rows that a step tries.
-use Rattle.std.proofs.Common.{ℕ, ℤ, zero, suc, ◌≡◌, ◌∙◌, ◌+◌, ◌-◌, ◌≤◌, ◌⊎◌, ◌++◌, true, cond, nat_le, List, [], ◌∷◌, length, Option, Some, pos, refl, sym, ap, subst, inl, inr, arith}
-use Rattle.std.specs.Prelude.{◌↔◌, IfOk, Result, Ok, Err, option_and_then, slice_get, unwrap_or}
+-- Rows of equal cells: from keys that stand for the cells, and as the rows that fit a tie.
+use Rattle.std.proofs.Common.{ℕ, ℤ, zero, suc, ◌≡◌, ◌∙◌, ◌+◌, ◌-◌, ◌≤◌, ◌⊎◌, ◌++◌, cond, nat_le, List, [], ◌∷◌, length, Option, Some, pos, refl, sym, ap, subst, inl, inr, arith}
+use Rattle.std.specs.Prelude.{◌↔◌, IfOk, IfSome, Result, Ok, Err, option_and_then, slice_get, unwrap_or}
 use Rattle.std.specs.Cmp.{int_cmp_total}
 use Rattle.std.specs.Cmp.Lexicographic.{nat_list_cmp_total, slice_cmp}
 use Rattle.std.specs.Ordering.{int_cmp, nat_cmp}
@@ -11,22 +11,18 @@ use Rattle.rs_table.specs.Relation.{Relation, cell_at}
 use Rattle.std.specs.declared.cmp.Ordering.{Ordering}
 use Rattle.std.specs.declared.cmp.Ordering.TheVariants.{Equal}
 use Rattle.std.proofs.lemmas.Option.{slice_get_cases}
-use Rattle.rs_value.specs.declared.kind.Kind.{Kind}
 use Rattle.rs_value.specs.declared.value.Value.{Value}
-use Rattle.rs_value.specs.Value.{kind_of}
-use Rattle.rs_rank.specs.Masks.{has_number}
 use Rattle.rs_catalog.specs.Catalog.{CatalogDef}
 use Rattle.rs_query.specs.declared.block.Block.{Block}
 use Rattle.rs_query.specs.declared.equal_rows.EqualRows.{EqualRows}
-use Rattle.rs_query.specs.declared.step.Step.{Step}
-use Rattle.rs_query.specs.declared.step.Tie.{Tie}
+use Rattle.rs_query.specs.declared.tie.Tie.{Tie}
+use Rattle.rs_query.specs.Meaning.{column_value}
 use Rattle.rs_query.specs.EqualRows.{AreFirst, AreKeys, AreNextBehind, HasKey, IsEqualKey, IsNext}
-use Rattle.rs_query.specs.Searching.{AreEqualRows, AreEquated, Fits, HasKinds, IsStep, IsTie, IsTied, cell_of}
+use Rattle.rs_query.specs.Searching.{AreEqualRows, AreEquated, Fits, IsTied, cell_of}
 use Rattle.rs_query.specs.Tables.{HasRow, HasRows, entry_table, row_number, size_of}
 use Rattle.rs_query.specs.WellFormed.{IsBlock, IsColumn, IsConjunct, column_kind}
 use Rattle.rs_order.proofs.ClimbingFacts.{AllByRecursion-In}
 use Rattle.rs_query.proofs.EquatedFacts.{equality-kinds}
-use Rattle.rs_query.proofs.MaskStepFacts.{has-none}
 use Rattle.rs_query.proofs.NextFacts.{IsNext-cut, IsNext-same}
 
 -- the key of a row
@@ -64,16 +60,11 @@ module _ {K : Type 0} (cmp : K → K → Ordering) (reads : K → Value) (exact 
 
 -- the rows of equal keys are those of equal cells
 pub AreEqualRows-keys : {K : Type 0} (cmp : K → K → Ordering) (reads : K → Value) → ((a b : K) → (cmp a b ≡ Equal) ↔ (reads a ≡ reads b))
-    → (catalogue : CatalogDef) (block : Block) (left right : ℕ × ℕ) (kind : Kind) → ((key : K) → kind_of (reads key) ≡ kind)
-    → column_kind catalogue block left ≡ Some kind → column_kind catalogue block left ≡ column_kind catalogue block right
-    → (lefts rights : List K) (first next : List ℕ)
+    → (catalogue : CatalogDef) (block : Block) (left right : ℕ × ℕ) (lefts rights : List K) (first next : List ℕ)
     → AreKeys reads (cell_of catalogue block left) (size_of catalogue block left.0) lefts → AreKeys reads (cell_of catalogue block right) (size_of catalogue block right.0) rights
     → length first ≡ length lefts → length next ≡ length rights → AreFirst cmp lefts rights first → AreNextBehind cmp 0 rights next
     → AreEqualRows catalogue block left right first next
-AreEqualRows-keys {K} cmp reads exact catalogue block left right kind of_kind is_kind same lefts rights first next left_keys right_keys sized_first sized_next are_first are_next = record {
-  kinds = same;
-  left_kind = kinds left lefts left_keys is_kind;
-  right_kind = kinds right rights right_keys (sym same ∙ is_kind);
+AreEqualRows-keys cmp reads exact catalogue block left right lefts rights first next left_keys right_keys sized_first sized_next are_first are_next = record {
   lefts = sized_first ∙ left_keys.sized;
   rights = sized_next ∙ right_keys.sized;
   firsts = λ row some most.
@@ -85,58 +76,40 @@ AreEqualRows-keys {K} cmp reads exact catalogue block left right kind of_kind is
       next-cell cmp reads exact (cell_of catalogue block right) (size_of catalogue block right.0) rights right_keys k.key (cell_of catalogue block right row) row
       (unwrap_or (slice_get next (row - 1)) 0) k.is_value (are_next row k.key (omega arith) k.there);
 }
-  where
-    kinds : (column : ℕ × ℕ) (keys : List K) → AreKeys reads (cell_of catalogue block column) (size_of catalogue block column.0) keys → column_kind catalogue block column ≡ Some kind
-        → HasKinds catalogue block column
-    kinds column keys are is other row is_other some most =
-        let k = key-of reads (cell_of catalogue block column) (size_of catalogue block column.0) keys row are some most in
-        let both : Some kind ≡ Some other = sym is ∙ is_other in
-        ap kind_of k.is_value ∙ of_kind k.key ∙ (let e : kind ≡ other = cc in e)
 
-module _ (catalogue : CatalogDef) (block : Block) (mask : ℕ) (step : Step) (tie : Tie) (is_step : IsStep catalogue block mask step) (has : step.tie ≡ Some tie) where
-  pub tie-of : IsTied catalogue block mask step.entry tie
-  tie-of = subst (IsTie catalogue block mask step.entry) has is_step.tie
+-- the earlier entry of a tie has a row
+pub tied-row : (catalogue : CatalogDef) (block : Block) (mask entry : ℕ) (tie : Tie) (rows : List ℕ) → IsTied catalogue block mask entry tie → HasRows catalogue block mask rows
+    → HasRow catalogue block rows tie.left.0
+tied-row catalogue block mask entry tie rows tied have = have tie.left.0 tied.left.0 tied.left.1 tied.equated.is_by.is_chosen
 
-  -- with a tie a step begins at the first row of all
-  start-of : step.above ≡ 0
-  start-of = elim is_step.start [
-    | inl none ↦ absurd (has-none tie.left.0 (subst (λ m. has_number m tie.left.0 ≡ true) none tie-of.equated.is_by.is_chosen))
-    | inr e ↦ e
-  ]
+module _ (catalogue : CatalogDef) (block : Block) (mask entry : ℕ) (tie : Tie) (tied : IsTied catalogue block mask entry tie) (rows : List ℕ) (listed : EqualRows)
+    (has : tie.listed ≡ Some listed) (last : ℕ) (within : last ≤ size_of catalogue block tie.right.0) where
+  -- its rows of equal cells, where they are listed
+  pub listed-of : AreEqualRows catalogue block tie.left tie.right listed.first.items listed.next.items
+  listed-of = subst (λ o. IfSome o (λ (l : EqualRows). AreEqualRows catalogue block tie.left tie.right l.first.items l.next.items)) has tied.listed
 
-  last-of : step.last ≤ size_of catalogue block tie.right.0
-  last-of = subst (λ entry. step.last ≤ size_of catalogue block entry) (sym tie-of.equated.is_by.is_next) is_step.last
+  -- the first listed row, cut behind the last one, is the first one that fits
+  pub first-fits : (row found result : ℕ) → HasRows catalogue block mask rows → row ≡ row_number rows tie.left.0 → found ≡ unwrap_or (slice_get listed.first.items (row - 1)) 0
+      → result ≡ cond (nat_le found last) found 0 → IsNext (Fits catalogue block (Some tie) rows) 0 last result
+  first-fits row found result have is_row is_found cut =
+      let own = tied-row catalogue block mask entry tie rows tied have in
+      let next = listed-of.firsts (row_number rows tie.left.0) own.0 own.1 in
+      let at : unwrap_or (slice_get listed.first.items (row_number rows tie.left.0 - 1)) 0 ≡ found =
+      ap (λ (n : ℕ). unwrap_or (slice_get listed.first.items (n - 1)) 0) (sym is_row) ∙ sym is_found in
+      subst (IsNext (Fits catalogue block (Some tie) rows) 0 last) (sym cut)
+      (IsNext-cut (Fits catalogue block (Some tie) rows) 0 (size_of catalogue block tie.right.0) last found within
+      (subst (IsNext (Fits catalogue block (Some tie) rows) 0 (size_of catalogue block tie.right.0)) at next))
 
-  -- the first row of the tie, cut behind the last one, is the first one to be tried
-  pub first-fits : (rows : List ℕ) (row found result : ℕ) → HasRows catalogue block mask rows → row ≡ row_number rows tie.left.0 → found ≡ unwrap_or (slice_get tie.rows.first.items (row - 1)) 0
-      → result ≡ cond (nat_le found step.last) found 0
-      → IsNext (Fits catalogue block step.tie rows) step.above step.last result
-  first-fits rows row found result rows_in is_row is_found cut =
-      let column = tie-of.left in
-      let own : HasRow catalogue block rows tie.left.0 = rows_in tie.left.0 column.0 column.1 tie-of.equated.is_by.is_chosen in
-      let next = tie-of.rows.firsts (row_number rows tie.left.0) own.0 own.1 in
-      let at : unwrap_or (slice_get tie.rows.first.items (row_number rows tie.left.0 - 1)) 0 ≡ found =
-      ap (λ (n : ℕ). unwrap_or (slice_get tie.rows.first.items (n - 1)) 0) (sym is_row) ∙ sym is_found in
-      subst (λ t. IsNext (Fits catalogue block t rows) step.above step.last result) (sym has)
-      (subst (λ n. IsNext (Fits catalogue block (Some tie) rows) n step.last result) (sym start-of)
-      (subst (IsNext (Fits catalogue block (Some tie) rows) 0 step.last) (sym cut)
-      (IsNext-cut (Fits catalogue block (Some tie) rows) 0 (size_of catalogue block tie.right.0) step.last found last-of
-      (subst (IsNext (Fits catalogue block (Some tie) rows) 0 (size_of catalogue block tie.right.0)) at next))))
-
-  -- and the next row of the tie the next one
-  pub next-fits : (rows : List ℕ) (row found result : ℕ) → 1 ≤ row → row ≤ length tie.rows.next.items → Fits catalogue block step.tie rows row
-      → found ≡ unwrap_or (slice_get tie.rows.next.items (row - 1)) 0
-      → result ≡ cond (nat_le found step.last) found 0
-      → IsNext (Fits catalogue block step.tie rows) row step.last result
-  next-fits rows row found result some most fits is_found cut =
-      let fit : Fits catalogue block (Some tie) rows row = subst (λ t. Fits catalogue block t rows row) has fits in
-      let next = tie-of.rows.nexts row some (subst (λ n. row ≤ n) tie-of.rows.rights most) in
-      subst (λ t. IsNext (Fits catalogue block t rows) row step.last result) (sym has)
-      (subst (IsNext (Fits catalogue block (Some tie) rows) row step.last) (sym cut)
-      (IsNext-cut (Fits catalogue block (Some tie) rows) row (size_of catalogue block tie.right.0) step.last found last-of
+  -- and the next listed row the next one
+  pub next-fits : (row found result : ℕ) → 1 ≤ row → row ≤ last → Fits catalogue block (Some tie) rows row → found ≡ unwrap_or (slice_get listed.next.items (row - 1)) 0
+      → result ≡ cond (nat_le found last) found 0 → IsNext (Fits catalogue block (Some tie) rows) row last result
+  next-fits row found result some most fit is_found cut =
+      let next = listed-of.nexts row some (omega arith) in
+      subst (IsNext (Fits catalogue block (Some tie) rows) row last) (sym cut)
+      (IsNext-cut (Fits catalogue block (Some tie) rows) row (size_of catalogue block tie.right.0) last found within
       (subst (IsNext (Fits catalogue block (Some tie) rows) row (size_of catalogue block tie.right.0)) (sym is_found)
       (IsNext-same (λ other. cell_of catalogue block tie.right row ≡ cell_of catalogue block tie.right other) (Fits catalogue block (Some tie) rows) row (size_of catalogue block tie.right.0)
-      (unwrap_or (slice_get tie.rows.next.items (row - 1)) 0) (λ other above below same. fit ∙ same) (λ other above below same. sym fit ∙ same) next))))
+      (unwrap_or (slice_get listed.next.items (row - 1)) 0) (λ other above below same. fit ∙ same) (λ other above below same. sym fit ∙ same) next)))
 
 -- a cell of a table is that of its entry's column
 pub cell_of-value : (catalogue : CatalogDef) (block : Block) (column : ℕ × ℕ) (row : ℕ) (table : Relation) (v : Value) → entry_table catalogue block column.0 ≡ Some table
@@ -144,6 +117,13 @@ pub cell_of-value : (catalogue : CatalogDef) (block : Block) (column : ℕ × �
 cell_of-value catalogue block column row table v is_table is =
     ap (λ (o : Option Relation). unwrap_or (option_and_then (λ (t : Relation). cell_at t row column.1) o) (value.Int (pos 0))) is_table
     ∙ ap (λ (o : Option Value). unwrap_or o (value.Int (pos 0))) is
+
+-- a row fits a tie where its cell is equal to that of the earlier entry
+pub fits-cell : (catalogue : CatalogDef) (block : Block) (tie : Tie) (rows : List ℕ) (row : ℕ) (table : Relation) (left found : Value) → entry_table catalogue block tie.right.0 ≡ Some table
+    → left ≡ column_value catalogue block rows tie.left → cell_at table row tie.right.1 ≡ Some found → (found ≡ left) ↔ Fits catalogue block (Some tie) rows row
+fits-cell catalogue block tie rows row table left found is_table is_left is_found =
+    let is : cell_of catalogue block tie.right row ≡ found = cell_of-value catalogue block tie.right row table found is_table is_found in
+    ((λ same. sym is_left ∙ sym same ∙ sym is), (λ fits. sym is ∙ sym fits ∙ sym is_left))
 
 -- an item of a list with one more
 slice_get-push : {K : Type 0} (xs : List K) (y : K) (i : ℕ) (k : K) → slice_get (xs ++ y ∷ []) i ≡ Some k → (slice_get xs i ≡ Some k) ⊎ ((i ≡ length xs) × (y ≡ k))
@@ -183,15 +163,14 @@ exact-texts t s = (
 
 -- what a result has where it is rows of equal keys
 pub AreEqualRows-result : {K E : Type 0} (cmp : K → K → Ordering) (reads : K → Value) → ((a b : K) → (cmp a b ≡ Equal) ↔ (reads a ≡ reads b))
-    → (catalogue : CatalogDef) (block : Block) (left right : ℕ × ℕ) (kind : Kind) → ((key : K) → kind_of (reads key) ≡ kind)
-    → column_kind catalogue block left ≡ Some kind → column_kind catalogue block left ≡ column_kind catalogue block right → (lefts rights : List K)
+    → (catalogue : CatalogDef) (block : Block) (left right : ℕ × ℕ) (lefts rights : List K)
     → AreKeys reads (cell_of catalogue block left) (size_of catalogue block left.0) lefts → AreKeys reads (cell_of catalogue block right) (size_of catalogue block right.0) rights
     → (result : Result EqualRows E) → IfOk result (λ rows. AreFirst cmp lefts rights rows.first.items) → IfOk result (λ rows. AreNextBehind cmp 0 rights rows.next.items)
     → IfOk result (λ rows. length rows.first.items ≡ length lefts) → IfOk result (λ rows. length rows.next.items ≡ length rights)
     → IfOk result (λ rows. AreEqualRows catalogue block left right rows.first.items rows.next.items)
-AreEqualRows-result cmp reads exact catalogue block left right kind of_kind is_kind same lefts rights left_keys right_keys (Ok rows) first next sized_first sized_next =
-    AreEqualRows-keys cmp reads exact catalogue block left right kind of_kind is_kind same lefts rights rows.first.items rows.next.items left_keys right_keys sized_first sized_next first next
-AreEqualRows-result cmp reads exact catalogue block left right kind of_kind is_kind same lefts rights left_keys right_keys (Err fault) first next sized_first sized_next = tt
+AreEqualRows-result cmp reads exact catalogue block left right lefts rights left_keys right_keys (Ok rows) first next sized_first sized_next =
+    AreEqualRows-keys cmp reads exact catalogue block left right lefts rights rows.first.items rows.next.items left_keys right_keys sized_first sized_next first next
+AreEqualRows-result cmp reads exact catalogue block left right lefts rights left_keys right_keys (Err fault) first next sized_first sized_next = tt
 
 -- the two columns of an equality are columns of the block, of one kind
 pub equated-kinds : (catalogue : CatalogDef) (block : Block) (mask entry : ℕ) (left right : ℕ × ℕ) → IsBlock catalogue block → AreEquated block mask entry left right

@@ -69,13 +69,14 @@ was-made (Err fault) ranking made = absurd cc
 
 -- where all rows have scores, what holds of each entry holds of the one that a row has
 module _ (answer : List Value → ℤ) (most : ℕ) where
-  record FirstScored (row : ℕ) (first : List Value) (rest : List (List Value)) (entries : List ScoredRow) : Type 0 where
-    score : is_score most (answer first) ≡ true
-    others : List ScoredRow
-    rest_is : scored_from answer most (row + 1) rest ≡ Ok others
-    all_is : entries ≡ record { score = as_score (answer first); row = row } ∷ others
+  -- the first of some rows that all have scores, and those behind it
+  pub record FirstScored (row : ℕ) (first : List Value) (rest : List (List Value)) (entries : List ScoredRow) : Type 0 where
+    pub score : is_score most (answer first) ≡ true
+    pub others : List ScoredRow
+    pub rest_is : scored_from answer most (row + 1) rest ≡ Ok others
+    pub all_is : entries ≡ record { score = as_score (answer first); row = row } ∷ others
 
-  first-scored : (row : ℕ) (first : List Value) (rest : List (List Value)) (entries : List ScoredRow) → scored_from answer most row (first ∷ rest) ≡ Ok entries → FirstScored row first rest entries
+  pub first-scored : (row : ℕ) (first : List Value) (rest : List (List Value)) (entries : List ScoredRow) → scored_from answer most row (first ∷ rest) ≡ Ok entries → FirstScored row first rest entries
   first-scored row first rest entries made = go (is_score most (answer first)) refl (scored_from answer most (row + 1) rest) refl where
     go : (b : Bool) → is_score most (answer first) ≡ b → (behind : Result (List ScoredRow) IndexFault) → scored_from answer most (row + 1) rest ≡ behind → FirstScored row first rest entries
     go true score (Ok others) rest_is =

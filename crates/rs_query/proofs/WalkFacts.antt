@@ -1,45 +1,42 @@
 -- What a step of a search asks for: rows of the entries before it, and conditions on them and its own.
-use Rattle.std.proofs.Common.{ℕ, suc, ◌≡◌, ◌∙◌, ◌-◌, ◌<◌, ◌≤◌, List, [], ◌∷◌, length, set, Some, None, refl, sym, ap, subst, bit_or, arith}
-use Rattle.std.specs.Prelude.{IfSome, Option}
-use Rattle.rs_rank.specs.Masks.{mask_of}
+use Rattle.std.proofs.Common.{ℕ, suc, ◌≡◌, ◌∙◌, ◌-◌, ◌<◌, ◌≤◌, true, List, [], ◌∷◌, length, set, Some, refl, sym, ap, subst, inl, inr, bit_or, arith}
+use Rattle.rs_rank.specs.Masks.{has_number, mask_of}
 use Rattle.rs_catalog.specs.Catalog.{CatalogDef}
 use Rattle.rs_query.specs.declared.block.Block.{Block}
 use Rattle.rs_query.specs.declared.step.Step.{Step}
-use Rattle.rs_query.specs.declared.step.Tie.{Tie}
+use Rattle.rs_query.specs.declared.tie.Tie.{Tie}
 use Rattle.rs_query.specs.Choices.{IsChoice}
+use Rattle.rs_query.specs.EqualRows.{IsNext}
 use Rattle.rs_query.specs.Meaning.{AreInside}
-use Rattle.rs_query.specs.Searching.{IsStep, IsTie}
-use Rattle.rs_query.specs.Tables.{HasRows, row_number, size_of, sizes_of}
+use Rattle.rs_query.specs.Searching.{Fits, IsStep, IsTie, IsTied}
+use Rattle.rs_query.specs.Tables.{HasRows, size_of, sizes_of}
 use Rattle.rs_query.specs.WellFormed.{IsBlock}
 use Rattle.rs_query.proofs.ExtendFacts.{HasRows-choice, get_or-sizes_of}
 use Rattle.rs_query.proofs.HoldNewFacts.{new-inside}
-use Rattle.rs_query.proofs.MaskStepFacts.{IsChoice-set, is_inside-more}
+use Rattle.rs_query.proofs.MaskStepFacts.{IsChoice-set, has-none, is_inside-more}
 
 module _ (catalogue : CatalogDef) (block : Block) (is : IsBlock catalogue block) (mask : ℕ) (step : Step) (is_step : IsStep catalogue block mask step) where
-  -- the entry of a tie
-  pub tie-entry : IfSome step.tie (λ tie. (1 ≤ tie.left.0) × (tie.left.0 ≤ 6))
-  tie-entry = go step.tie is_step.tie where
-    go : (tie : Option Tie) → IsTie catalogue block mask step.entry tie → IfSome tie (λ tie. (1 ≤ tie.left.0) × (tie.left.0 ≤ 6))
-    go None tied = tt
-    go (Some tie) tied = let most = tied.left.1 in (tied.left.0, omega (arith, most, is.most_entries))
+  -- the tie of a step that has one
+  pub tie-of : (tie : Tie) → step.tie ≡ Some tie → IsTied catalogue block mask step.entry tie
+  tie-of tie has = subst (IsTie catalogue block mask step.entry) has is_step.tie
 
-  -- it has a row
-  pub tie-row : (rows : List ℕ) → HasRows catalogue block mask rows → IfSome step.tie (λ tie. (1 ≤ row_number rows tie.left.0) × (row_number rows tie.left.0 ≤ length tie.rows.first.items))
-  tie-row rows have = go step.tie is_step.tie where
-    go : (tie : Option Tie) → IsTie catalogue block mask step.entry tie → IfSome tie (λ tie. (1 ≤ row_number rows tie.left.0) × (row_number rows tie.left.0 ≤ length tie.rows.first.items))
-    go None tied = tt
-    go (Some tie) tied =
-        let row = have tie.left.0 tied.left.0 tied.left.1 tied.equated.is_by.is_chosen in
-        (row.0, subst (λ n. row_number rows tie.left.0 ≤ n) (sym tied.rows.lefts) row.1)
+  -- the last row of the step is one of the tie
+  pub tie-last : (tie : Tie) → step.tie ≡ Some tie → step.last ≤ size_of catalogue block tie.right.0
+  tie-last tie has = subst (λ entry. step.last ≤ size_of catalogue block entry) (sym (tie-of tie has).equated.is_by.is_next) is_step.last
 
-  -- a row of the step has a next one in the tie
-  pub tie-next : (row : ℕ) → row ≤ step.last → IfSome step.tie (λ tie. row ≤ length tie.rows.next.items)
-  tie-next row most = go step.tie is_step.tie where
-    go : (tie : Option Tie) → IsTie catalogue block mask step.entry tie → IfSome tie (λ tie. row ≤ length tie.rows.next.items)
-    go None tied = tt
-    go (Some tie) tied =
-        let size : length tie.rows.next.items ≡ size_of catalogue block step.entry = tied.rows.rights ∙ ap (size_of catalogue block) tied.equated.is_by.is_next in
-        omega (arith, is_step.last)
+  -- with a tie a step begins at the first row of all
+  tie-start : (tie : Tie) → step.tie ≡ Some tie → step.above ≡ 0
+  tie-start tie has = elim is_step.start [
+    | inl none ↦ absurd (has-none tie.left.0 (subst (λ m. has_number m tie.left.0 ≡ true) none (tie-of tie has).equated.is_by.is_chosen))
+    | inr e ↦ e
+  ]
+
+  -- so the first row that fits the tie is the first one of the step
+  pub tie-first : (tie : Tie) → step.tie ≡ Some tie → (rows : List ℕ) (result : ℕ) → IsNext (Fits catalogue block (Some tie) rows) 0 step.last result
+      → IsNext (Fits catalogue block step.tie rows) step.above step.last result
+  tie-first tie has rows result next =
+      subst (λ t. IsNext (Fits catalogue block t rows) step.above step.last result) (sym has)
+      (subst (λ n. IsNext (Fits catalogue block (Some tie) rows) n step.last result) (sym (tie-start tie has)) next)
 
   few : step.entry - 1 < 6
   few = omega (arith, is_step.least, is_step.most, is.most_entries)

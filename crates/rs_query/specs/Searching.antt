@@ -1,5 +1,5 @@
 -- How combinations are found: entry by entry, along the equalities of the conditions.
-use Rattle.std.specs.Prelude.{ℕ, ◌≡◌, ◌⊎◌, ◌↔◌, ◌≤◌, ◌<◌, ◌-◌, ◌++◌, Bool, true, false, pos, List, [], ◌∷◌, length, bit_or, Option, Some, None, slice_get, unwrap_or, option_and_then}
+use Rattle.std.specs.Prelude.{ℕ, ◌≡◌, ◌⊎◌, ◌↔◌, ◌≤◌, ◌<◌, ◌-◌, ◌++◌, Bool, true, false, pos, List, [], ◌∷◌, length, bit_or, Option, Some, None, IfSome, slice_get, unwrap_or, option_and_then}
 use Rattle.std.specs.Cmp.Lexicographic.{slice_cmp}
 use Rattle.std.specs.List.{IsDistinct}
 use Rattle.std.specs.Ordering.{eq_by_cmp, nat_cmp}
@@ -20,7 +20,7 @@ use Rattle.rs_query.specs.Tables.{all_entries, entry_table, row_number, size_of,
 use Rattle.rs_query.specs.WellFormed.{IsColumn, column_kind}
 use Rattle.rs_query.specs.declared.block.Block.{Block}
 use Rattle.rs_query.specs.declared.step.Step.{Step}
-use Rattle.rs_query.specs.declared.step.Tie.{Tie}
+use Rattle.rs_query.specs.declared.tie.Tie.{Tie}
 
 -- the cell of a column in the row of this number
 abbrev pub cell_of : CatalogDef → Block → ℕ × ℕ → ℕ → Value
@@ -34,9 +34,6 @@ HasKinds catalogue block column =
 
 -- for each row of the one column the first row of the other one with an equal cell, and for each row of the other one the next such row
 pub record AreEqualRows (catalogue : CatalogDef) (block : Block) (left right : ℕ × ℕ) (first next : List ℕ) : Type 0 where
-  pub kinds : column_kind catalogue block left ≡ column_kind catalogue block right
-  pub left_kind : HasKinds catalogue block left
-  pub right_kind : HasKinds catalogue block right
   pub lefts : length first ≡ size_of catalogue block left.0
   pub rights : length next ≡ size_of catalogue block right.0
   pub firsts : (row : ℕ) → 1 ≤ row → row ≤ size_of catalogue block left.0
@@ -56,12 +53,14 @@ pub record AreEquated (block : Block) (mask entry : ℕ) (left right : ℕ × �
   pub is_in : In conjunct block.conjuncts
   pub is_by : IsEquatedBy conjunct mask entry left right
 
--- such columns, and their rows with equal cells
+-- such columns, and their rows with equal cells where these are listed
 pub record IsTied (catalogue : CatalogDef) (block : Block) (mask entry : ℕ) (tie : Tie) : Type 0 where
   pub left : IsColumn catalogue block tie.left
   pub right : IsColumn catalogue block tie.right
+  pub left_kind : HasKinds catalogue block tie.left
+  pub right_kind : HasKinds catalogue block tie.right
   pub equated : AreEquated block mask entry tie.left tie.right
-  pub rows : AreEqualRows catalogue block tie.left tie.right tie.rows.first.items tie.rows.next.items
+  pub listed : IfSome tie.listed (λ rows. AreEqualRows catalogue block tie.left tie.right rows.first.items rows.next.items)
 
 abbrev pub IsTie : CatalogDef → Block → ℕ → ℕ → Option Tie → Type 0
 IsTie catalogue block mask entry None = Unit {0}

@@ -128,7 +128,7 @@ impl Block {
             return Ok(());
         };
         let more = union(mask, mask_of(step.entry));
-        let mut row = step.first(&rows);
+        let mut row = step.first(catalog, self, &rows);
         while row != 0 {
             let longer = with_row(rows, step.entry - 1, row);
             let ids = Ids {
@@ -139,7 +139,7 @@ impl Block {
             if self.holds(catalog, step.conditions, &ids) {
                 self.extend(catalog, rest, more, longer, found)?;
             }
-            row = step.next(row);
+            row = step.next(catalog, self, &rows, row);
         }
         Ok(())
     }

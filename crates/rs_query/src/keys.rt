@@ -2,7 +2,7 @@
 
 ghost use Rattle.std.specs.Prelude.{◌≡◌, ◌≤◌, IfOk, Some, length};
 ghost use Rattle.rs_query.specs.EqualRows.{AreKeys};
-ghost use Rattle.rs_query.specs.Searching.{AreEqualRows, cell_of};
+ghost use Rattle.rs_query.specs.Searching.{AreEqualRows, HasKinds, cell_of};
 ghost use Rattle.rs_query.specs.Tables.{size_of};
 ghost use Rattle.rs_query.specs.WellFormed.{IsBlock, IsColumn, column_kind};
 ghost use Rattle.rs_value.specs.declared.kind.Kind.TheVariants as kind;
@@ -44,11 +44,12 @@ impl Block {
         }
     }
 
-    /// The kind of a column.
-    fn kind(&self, catalog: &Snapshot<'_>, column: (u8, u8)) -> Kind
+    /// The kind of a column and of its cells.
+    pub(crate) fn kind(&self, catalog: &Snapshot<'_>, column: (u8, u8)) -> Kind
         requires block { IsBlock catalog.now self.now }
         requires column { IsColumn catalog.now self.now column }
-        ensures { column_kind catalog.now self.now column ≡ Some result }
+        ensures value { column_kind catalog.now self.now column ≡ Some result }
+        ensures cells { HasKinds catalog.now self.now column }
     {
         self.table(catalog, column.0).schema().columns()[column.1 as usize].1
     }

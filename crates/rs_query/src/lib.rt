@@ -23,6 +23,7 @@ mod sizes;
 mod step;
 mod steps;
 mod term;
+mod tie;
 mod top_laws;
 mod weights;
 

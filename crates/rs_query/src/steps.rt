@@ -4,18 +4,24 @@ ghost use Rattle.std.specs.Prelude.{◌≡◌, ◌⊎◌, ◌≤◌, ℕ, IfOk, 
 ghost use Rattle.std.specs.List.{AllByRecursion};
 ghost use Rattle.rs_rank.specs.Masks.{has_number};
 ghost use Rattle.rs_catalog.specs.Catalog.{CatalogDef};
-ghost use Rattle.rs_query.specs.Searching.{AreEquated, AreSteps, IsEquatedBy, IsRanged, IsStep, IsTie};
+ghost use Rattle.rs_query.specs.Searching.{AreEqualRows, AreEquated, AreSteps, IsEquatedBy, IsRanged, IsStep, IsTie};
 ghost use Rattle.rs_query.specs.Tables.{all_entries};
-ghost use Rattle.rs_query.specs.WellFormed.{IsBlock};
+ghost use Rattle.rs_query.specs.WellFormed.{IsBlock, IsColumn, column_kind};
 
 use crate::block::Block;
 use crate::conjunct::Conjunct;
+use crate::equal_rows::EqualRows;
 use crate::sizes::size_of;
-use crate::step::{Step, Tie};
+use crate::step::Step;
+use crate::tie::Tie;
 use rs_catalog::Snapshot;
 use rs_rank::{has_number, mask_of, union};
 use rs_value::Memory;
 use std::alloc::Global;
+
+/// A step that is reached at most so many times looks at each row of its entry, in place of lists of the rows of equal cells: to make
+/// the lists takes about as long as so many looks at each row.
+const MOST_SCANS: u32 = 16;
 
 impl Block {
     /// The steps of the search that begins at an entry, the pivot. Of the pivot new rows are looked at, which come behind those of
@@ -80,13 +86,16 @@ impl Block {
         requires block { IsBlock catalog.now self.now }
         requires least { 1 ≤ entry }
         requires most { entry ≤ length self.now.from }
+        requires least_pivot { 1 ≤ pivot }
+        requires most_pivot { pivot ≤ length self.now.from }
         requires is_new { has_number mask entry ≡ false }
         requires start { (mask ≡ 0) ⊎ (entry ≡ pivot → ⊥) }
         ensures step { IfOk result (λ step. IsStep catalog.now self.now mask step) }
         ensures entry { IfOk result (λ step. step.entry ≡ entry) }
         ensures range { IfOk result (λ step. IsRanged catalog.now self.now old.now pivot step) }
     {
-        let tie = self.tie(alloc, catalog, mask, entry)?;
+        let is_scanned = self.is_scanned(catalog, mask, pivot, old);
+        let tie = self.tie(alloc, catalog, mask, entry, is_scanned)?;
         let size = size_of(catalog, self, entry);
         let old_size = old[entry as usize - 1];
         Ok(Step {
@@ -102,24 +111,64 @@ impl Block {
         })
     }
 
-    /// An equality that ties an entry to those in a mask, with its rows of equal cells.
+    /// Whether the step from the entries in a mask is reached a few times at most: it comes right behind the pivot, which has few new
+    /// rows. The answer bears on nothing but the time.
+    fn is_scanned(&self, catalog: &Snapshot<'_>, mask: u8, pivot: u8, old: &[u32; 6]) -> bool
+        requires block { IsBlock catalog.now self.now }
+        requires least { 1 ≤ pivot }
+        requires most { pivot ≤ length self.now.from }
+    {
+        let new_rows = size_of(catalog, self, pivot).saturating_sub(old[pivot as usize - 1]);
+        mask == mask_of(pivot) && new_rows <= MOST_SCANS
+    }
+
+    /// An equality that ties an entry to those in a mask, with its rows of equal cells unless it is scanned for them.
     fn tie(
         &self,
         alloc: Global,
         catalog: &Snapshot<'_>,
         mask: u8,
         entry: u8,
+        is_scanned: bool,
     ) -> Result<Option<Tie>, Memory>
         requires block { IsBlock catalog.now self.now }
         ensures { IfOk result (λ tie. IsTie catalog.now self.now mask entry tie) }
     {
         match self.equated(mask, entry) {
             Some((left, right)) => {
-                let rows = self.equal_rows(alloc, catalog, left, right)?;
-                Ok(Some(Tie { left, right, rows }))
+                // The cells of both columns are of their kinds.
+                let _ = self.kind(catalog, left);
+                let _ = self.kind(catalog, right);
+                let listed = self.listed(alloc, catalog, left, right, is_scanned)?;
+                Ok(Some(Tie {
+                    left,
+                    right,
+                    listed,
+                }))
             }
             None => Ok(None),
         }
+    }
+
+    /// The rows of equal cells of two columns of one kind, or none where these are scanned.
+    fn listed(
+        &self,
+        alloc: Global,
+        catalog: &Snapshot<'_>,
+        left: (u8, u8),
+        right: (u8, u8),
+        is_scanned: bool,
+    ) -> Result<Option<EqualRows>, Memory>
+        requires block { IsBlock catalog.now self.now }
+        requires left { IsColumn catalog.now self.now left }
+        requires right { IsColumn catalog.now self.now right }
+        requires kinds { column_kind catalog.now self.now left ≡ column_kind catalog.now self.now right }
+        ensures { IfOk result (λ listed. IfSome listed (λ rows. AreEqualRows catalog.now self.now left right rows.first.items rows.next.items)) }
+    {
+        if is_scanned {
+            return Ok(None);
+        }
+        Ok(Some(self.equal_rows(alloc, catalog, left, right)?))
     }
 
     /// A column of an entry in a mask, and one of another entry, that a condition equates.

@@ -33,6 +33,7 @@ use Rattle.rs_events.specs.Running as running
 use Rattle.rs_events.specs.Running.{HasDone}
 use Rattle.rs_events.proofs.RanFacts.{HasDone-line, Ran-all, Ran-behind, Ran-done, Ran-lines, Ran-longer, Ran-no_memory, map-both}
 use Rattle.rs_statement.specs.Lines.{rank_lines}
+use Rattle.rs_statement.proofs.PrintFacts.{length-rank_lines}
 use Rattle.rs_statement.specs.Planned.{ask_count}
 use Rattle.rs_run.specs.declared.fault.RunFault.{RunFault}
 use Rattle.rs_run.specs.Faults.{WordsRun, run_faults}
@@ -69,11 +70,7 @@ length-cut None n xs (inr e) few = omega arith
 length-cut (Some limit) n xs (inl e) few = omega (arith, length-take limit xs)
 length-cut (Some limit) n xs (inr e) few = omega (arith, length-take limit xs)
 
--- the lines of rows: there is one for each, and those of the first rows are the first lines
-length-lines : (rank : ℕ) (rows : List Answer) → length (rank_lines rank rows) ≡ length rows
-length-lines rank [] = refl
-length-lines rank (row ∷ rows) = ap suc (length-lines (rank + 1) rows)
-
+-- the lines of rows: those of the first rows are the first lines
 lines-split : (rank n : ℕ) (rows : List Answer) (row : Answer) → slice_get rows n ≡ Some row
     → rank_lines rank rows ≡ take n (rank_lines rank rows) ++ (line_of (rank + n) row.score row.values ∷ drop (suc n) (rank_lines rank rows))
 lines-split rank n [] row e = cc
@@ -155,7 +152,7 @@ module _ (test : BlockTestState) (limit : Option ℕ) (i : ScanInput) where
       let all = map (answer_for test.catalogue test.block) (answers i) in
       let same : length all ≡ length (answers i) = length-map (answers i) (answer_for test.catalogue test.block) in
       let short : length rows ≤ given = length-cut limit given all (elim ends [ inl e ↦ inl e | inr e ↦ inr (omega arith) ]) (omega arith) in
-      let covered : length (rank_lines 1 rows) ≤ given = omega (arith, length-lines 1 rows) in
+      let covered : length (rank_lines 1 rows) ≤ given = omega (arith, length-rank_lines 1 rows) in
       Ran-all (lines_run (rank_lines 1 rows)) (Ok tt) old new (subst (λ done. HasDone (map Put done) old new) (take_all given (rank_lines 1 rows) covered) has) refl
 
 -- how often the scan was asked in the end

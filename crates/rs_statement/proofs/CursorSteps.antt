@@ -1,7 +1,6 @@
 -- What a call of a cursor that stands asks, and what is left behind it.
 use Rattle.std.proofs.Common.{ℕ, suc, ◌≡◌, ◌∙◌, Bool, true, false, [], ◌∷◌, refl, sym, ap, subst}
-use Rattle.std.specs.Prelude.{IfOk, is_some, Option, Some, None, Result, Ok, Err, if◌then◌else◌}
-use Rattle.rs_value.specs.declared.memory.Memory as value
+use Rattle.std.specs.Prelude.{is_some, Option, Some, None, Result, Ok, Err, if◌then◌else◌}
 use Rattle.rs_rank.specs.declared.answer.Answer.{Answer}
 use Rattle.rs_lines.specs.Row.{line_of}
 use Rattle.rs_expr.specs.InOrder.{Inquires, Inquiry}
@@ -13,9 +12,8 @@ use Rattle.rs_plan.specs.Counts.{gave_of}
 use Rattle.rs_plan.specs.Lists as plan
 use Rattle.rs_plan.specs.Trees.{PlanTree}
 use Rattle.rs_query.specs.Questions.{is_bad, through_first}
-use Rattle.rs_query.specs.declared.query.Query.{Query}
 use Rattle.rs_exec.specs.Asking.{exec_faults, world_of}
-use Rattle.rs_exec.specs.Cursors.{CursorState, IsNew, IsOver, StandsFor, asks_after, asks_of, call_of, is_over, next_answer, next_of, no_question, plan_of}
+use Rattle.rs_exec.specs.Cursors.{CursorState, IsOver, StandsFor, asks_after, asks_of, call_of, is_over, next_answer, next_of, no_question, plan_of}
 use Rattle.rs_exec.specs.declared.fault.ExecFault.{ExecFault}
 use Rattle.rs_exec.specs.declared.fault.ExecFault.TheVariants.{Broken, Memory}
 use Rattle.rs_statement.specs.declared.fault.Fault.{Fault}

@@ -3,7 +3,7 @@ mod WorkedStatements
 mod WorkedInserts
 mod WorkedSession
 mod LineFacts
-mod PrintFacts
+pub mod PrintFacts
 pub mod StepFacts
 mod IndexSteps
 mod InsertSteps

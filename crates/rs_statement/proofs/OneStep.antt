@@ -1,7 +1,6 @@
 -- Statements have one run at most, where a name has one file at most.
-use Rattle.std.proofs.Common.{ℕ, ◌≡◌, ◌∙◌, List, [], ◌∷◌, sym, ap, subst}
-use Rattle.std.specs.Prelude.{Option, Some, Result, Ok, Err}
-use Rattle.rs_outside.specs.Files.{FilesTold}
+use Rattle.std.proofs.Common.{ℕ, ◌≡◌, ◌∙◌, List, sym, ap}
+use Rattle.std.specs.Prelude.{Result, Ok, Err}
 use Rattle.rs_syntax.specs.Syntax.{Command, CreateTable, CreatePredicate, CreateRankIndex, Ask, Declare, Close, Explain, ExplainAnalyze, Insert}
 use Rattle.rs_syntax.specs.Syntax as syntax
 use Rattle.rs_syntax.specs.declared.name.Name.{Name}

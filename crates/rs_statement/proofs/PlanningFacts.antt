@@ -1,10 +1,8 @@
 -- The cards of a query's sample, and the plan that is chosen by them.
-use Rattle.std.proofs.Common.{ℕ, ◌≡◌, ◌∙◌, List}
+use Rattle.std.proofs.Common.{◌≡◌, ◌∙◌, List}
 use Rattle.std.specs.Prelude.{IfOk, Result, Ok, Err}
 use Rattle.rs_value.specs.declared.memory.Memory as value
-use Rattle.rs_expr.specs.Scoring.{Answering}
 use Rattle.rs_catalog.specs.Catalog.{CatalogDef}
-use Rattle.rs_query.specs.Views.{View, all_rows}
 use Rattle.rs_query.specs.WellFormed.{IsQuery}
 use Rattle.rs_query.specs.declared.query.Query.{Query}
 use Rattle.rs_plan.specs.Plans.{IsPlan}
@@ -12,13 +10,8 @@ use Rattle.rs_plan.specs.Shapes.{tree_of}
 use Rattle.rs_plan.specs.Trees.{PlanTree}
 use Rattle.rs_plan.specs.declared.plan.Plan.{Plan}
 use Rattle.rs_sample.specs.Cards.{AllSayTheSame, BlockCards}
-use Rattle.rs_sample.specs.Kept.{cards_of}
-use Rattle.rs_sample.specs.Sampling.{query_cards}
-use Rattle.rs_sample.specs.declared.cards.Cards.{Cards}
 use Rattle.rs_enum.specs.Least.{IsLeast, least_plan}
 use Rattle.rs_enum.specs.QueryCards.{AreCards}
-use Rattle.rs_statement.specs.declared.fault.Fault.{Fault}
-use Rattle.rs_statement.specs.Planned.{cards_for}
 
 -- the laws of the least plan
 abbrev pub OneLeast : Type 0

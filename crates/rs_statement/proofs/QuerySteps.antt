@@ -1,8 +1,7 @@
 -- What the step of a query did, from what binding and its calls did.
-use Rattle.std.proofs.Common.{ℕ, ◌≡◌, ◌∙◌, List, [], ◌∷◌, map, Some, refl, sym, ap, inl, inr}
-use Rattle.std.specs.Prelude.{Result, Ok, Err, slice_get, ◌⊎◌}
+use Rattle.std.proofs.Common.{ℕ, ◌≡◌, ◌∙◌, List, [], ◌∷◌, map, ap, inl, inr}
+use Rattle.std.specs.Prelude.{Result, Ok, Err}
 use Rattle.rs_value.specs.Answer.{Gives}
-use Rattle.rs_expr.specs.Predicates.{PredicateDef}
 use Rattle.rs_syntax.specs.Syntax as syntax
 use Rattle.rs_value.specs.Results.{◌>>=◌}
 use Rattle.rs_catalog.specs.Catalog.{CatalogDef}

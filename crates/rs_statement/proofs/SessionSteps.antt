@@ -19,7 +19,7 @@ use Rattle.rs_syntax.specs.declared.statement.Statement.TheVariants as statement
 use Rattle.rs_statement.specs.declared.sampling.Sampling.{Sampling}
 use Rattle.rs_statement.specs.declared.evaluating.Evaluating.{Evaluating}
 use Rattle.rs_statement.specs.declared.fault.Fault.{Fault}
-use Rattle.rs_bind.specs.Queries.{bound_query, count_of}
+use Rattle.rs_bind.specs.Queries.{count_of}
 use Rattle.rs_typing.specs.declared.fault.BindFault.{BindFault}
 use Rattle.rs_plan.specs.Trees.{PlanTree}
 use Rattle.rs_query.specs.declared.query.Query.{Query}
@@ -34,14 +34,14 @@ use Rattle.rs_statement.specs.Planned.{plan_for}
 use Rattle.rs_events.specs.Events.{Finds}
 use Rattle.rs_statement.specs.Sampled.{sample_step}
 use Rattle.rs_statement.specs.Steps.{Step}
-use Rattle.rs_statement.specs.Session.{ByPlan, DoesInSession, OpenCursor, State, asked_more, beside_cursors, close_outcome, cursor_named, declare_step, declared_query, fetch_step, fetched_cursor, fetched_from, next_rows, opened_step, room_for_cursor, with_asks, with_cursor, without_cursor}
+use Rattle.rs_statement.specs.Session.{ByPlan, DoesInSession, OpenCursor, State, asked_more, beside_cursors, close_outcome, cursor_named, declare_step, declared_query, fetch_step, fetched_cursor, fetched_from, next_rows, opened_step, with_asks, with_cursor, without_cursor}
 use Rattle.rs_statement.specs.Statements.{Does, bind_fault, or_bind_fault, refused_or}
 use Rattle.rs_statement.specs.declared.evaluating.Evaluating.TheVariants.{Planned}
 use Rattle.rs_events.specs.Environment.{Environment}
 use Rattle.rs_statement.proofs.SampleSteps.{Stepped-then}
 use Rattle.rs_statement.proofs.SessionFacts.{cursors-append, cursors-remove, cursors-set, is_key, named-none, named-some}
 use Rattle.rs_events.proofs.SoFar.{Stepped-broken}
-use Rattle.rs_statement.proofs.StepFacts.{Stepped-bound, bound-ok}
+use Rattle.rs_statement.proofs.StepFacts.{Stepped-bound}
 use Rattle.rs_events.proofs.SteppedFacts.{Stepped-lines, Stepped-no_memory, Stepped-still}
 
 -- what holds whatever a call answers

@@ -11,12 +11,12 @@ use Rattle.rs_statement.specs.declared.fault.Fault.{Fault}
 use Rattle.rs_statement.specs.Parts.Asks.{IsAt, call_step}
 use Rattle.rs_statement.specs.Parts.Session.{IsAskedMore, next_of_cursor, wanted_step}
 use Rattle.rs_statement.specs.Parts.Steps.{Stepped}
-use Rattle.rs_statement.specs.Planned.{ask_outcome, asked_step, asks_from, next_asks}
+use Rattle.rs_statement.specs.Planned.{asked_step, asks_from, next_asks}
 use Rattle.rs_statement.specs.Steps.{Step}
 use Rattle.rs_events.specs.Sequence.{still, then_step}
 use Rattle.rs_events.specs.Environment.{Environment}
 use Rattle.rs_statement.proofs.CursorSteps.{call-next}
-use Rattle.rs_statement.proofs.PlanSteps.{more-all, over-all, over-ended, then-still}
+use Rattle.rs_statement.proofs.PlanSteps.{more-all, over-all}
 use Rattle.rs_events.proofs.SoFar.{SoFar, SoFar-ends, SoFar-more, Stepped-broken}
 use Rattle.rs_events.proofs.SteppedFacts.{Stepped-still}
 

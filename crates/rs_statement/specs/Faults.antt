@@ -1,5 +1,5 @@
 -- What ends a run early: its line on standard error.
-use Rattle.std.specs.Prelude.{ℕ, ◌==◌, not, List, [], ◌∷◌, ◌++◌, Option, Some, None, Result, Ok, Err, codes}
+use Rattle.std.specs.Prelude.{ℕ, ◌==◌, not, List, [], ◌∷◌, ◌++◌, Result, Ok, Err, codes}
 use Rattle.std.specs.List.{filter}
 use Rattle.std.specs.Fmt.{decimal, signed_decimal}
 use Rattle.rs_outside.specs.declared.files.FetchFault.{FetchFault}

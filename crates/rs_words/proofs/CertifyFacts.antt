@@ -20,6 +20,7 @@ use Rattle.rs_feed_join.specs.Ranked.{asks_of_rows}
 use Rattle.rs_feed_join.specs.Sides.{FeedSide, IsCounted}
 use Rattle.rs_order.specs.Schedule.{Left, Right, SideAsk, asked}
 use Rattle.rs_order.proofs.PartFacts.{take-snoc}
+use Rattle.rs_ripple.specs.Stands.{BeginsWith}
 use Rattle.rs_events.specs.Environment.{Environment}
 use Rattle.rs_events.specs.Run.{fails}
 use Rattle.rs_events.specs.Running.{Ran}
@@ -31,29 +32,33 @@ use Rattle.rs_words.specs.Faults.{put_faults}
 use Rattle.rs_words.specs.Joining.{IsDrawnOfTable, IsJoining, fault_of, join_fault}
 
 -- what the draws of a side show of its feed is what the join keeps of it
-pub side-shown : (rows : List FeedRow) (feed : TableFeedState) (side : FeedSide) (draws : ℕ) → feed.rows ≡ rows → IsDrawnOfTable feed side → IsCounted side → side.draws ≡ draws
-    → side_after rows draws ≡ cert_side side
-side-shown rows feed side draws same of counted drawn = subst (λ list. side_after list draws ≡ cert_side side) same (go side.ended refl) where
-  both : (ended : Bool) → take draws feed.rows ≡ side.rows → nat_lt (length feed.rows) draws ≡ ended → side.ended ≡ ended → side_after feed.rows draws ≡ cert_side side
+pub side-drawn : (rows : List FeedRow) (side : FeedSide) (draws : ℕ) → BeginsWith rows side.rows → (side.ended ≡ true → rows ≡ side.rows) → IsCounted side → side.draws ≡ draws → side_after rows draws ≡ cert_side side
+side-drawn rows side draws begins ends counted drawn = go side.ended refl where
+  both : (ended : Bool) → take draws rows ≡ side.rows → nat_lt (length rows) draws ≡ ended → side.ended ≡ ended → side_after rows draws ≡ cert_side side
   both ended list test is =
-      ap (λ (l : List FeedRow). record { rows = l; ended = nat_lt (length feed.rows) draws }) list
+      ap (λ (l : List FeedRow). record { rows = l; ended = nat_lt (length rows) draws }) list
       ∙ ap (λ (b : Bool). record { rows = side.rows; ended = b }) (test ∙ sym is)
 
   draws-are : (ended : Bool) → side.ended ≡ ended → draws ≡ length side.rows + cond ended 1 0
   draws-are ended is = sym drawn ∙ counted ∙ ap (λ b. length side.rows + cond b 1 0) is
 
-  go : (ended : Bool) → side.ended ≡ ended → side_after feed.rows draws ≡ cert_side side
+  go : (ended : Bool) → side.ended ≡ ended → side_after rows draws ≡ cert_side side
   go true is =
-      let all : feed.rows ≡ side.rows = of.drawn.ended is in
-      let size : length feed.rows ≡ length side.rows = ap length all in
+      let all : rows ≡ side.rows = ends is in
+      let size : length rows ≡ length side.rows = ap length all in
       let number : draws ≡ length side.rows + 1 = draws-are true is in
-      both true (take_all draws feed.rows (omega (arith, size, number)) ∙ all) (grind (arith, nat_tests, size, number)) is
+      both true (take_all draws rows (omega (arith, size, number)) ∙ all) (grind (arith, nat_tests, size, number)) is
   go false is =
-      let begins : side.rows ≡ take (length side.rows) feed.rows = of.drawn.rows in
+      let front : side.rows ≡ take (length side.rows) rows = begins in
       let number : draws ≡ length side.rows = draws-are false is ∙ (omega arith) in
-      let size : length side.rows ≡ min (length side.rows) (length feed.rows) = ap length begins ∙ length-take (length side.rows) feed.rows in
-      let within : length side.rows ≤ length feed.rows = omega (arith, size) in
-      both false (ap (λ n. take n feed.rows) number ∙ sym begins) (grind (arith, nat_tests, within, number)) is
+      let size : length side.rows ≡ min (length side.rows) (length rows) = ap length front ∙ length-take (length side.rows) rows in
+      let within : length side.rows ≤ length rows = omega (arith, size) in
+      both false (ap (λ n. take n rows) number ∙ sym front) (grind (arith, nat_tests, within, number)) is
+
+side-shown : (rows : List FeedRow) (feed : TableFeedState) (side : FeedSide) (draws : ℕ) → feed.rows ≡ rows → IsDrawnOfTable feed side → IsCounted side → side.draws ≡ draws
+    → side_after rows draws ≡ cert_side side
+side-shown rows feed side draws same of counted drawn =
+    subst (λ list. side_after list draws ≡ cert_side side) same (side-drawn feed.rows side draws of.drawn.rows of.drawn.ended counted drawn)
 
 -- the certificate of a join that made these asks
 pub cert-shown : (lefts rights : List FeedRow) (count n : ℕ) (asks : List SideAsk) (join : FeedJoinState) (left right : TableFeedState) (pairs : List (ℕ × ℕ)) → left.rows ≡ lefts → right.rows ≡ rights
@@ -68,11 +73,11 @@ cert-shown lefts rights count n asks join left right pairs left_rows right_rows 
     ∙ ap (λ (list : List (ℕ × ℕ)). record { k = count; left = cert_side join.left; right = cert_side join.right; pairs = list }) (sym are)
 
 -- the two cases of the definition
-certified-none : (lefts rights : List FeedRow) (count n : ℕ) → certified_behind lefts rights count n zero ≡ Ok (cert_after lefts rights count n (asks_of_rows (cut lefts) (cut rights) n))
+pub certified-none : (lefts rights : List FeedRow) (count n : ℕ) → certified_behind lefts rights count n zero ≡ Ok (cert_after lefts rights count n (asks_of_rows (cut lefts) (cut rights) n))
 unfolding certified_behind
 certified-none lefts rights count n = refl
 
-certified-more : (lefts rights : List FeedRow) (count n more : ℕ)
+pub certified-more : (lefts rights : List FeedRow) (count n more : ℕ)
     → certified_behind lefts rights count n (suc more) ≡ certified_after lefts rights count n (next_answer lefts rights n) (certified_behind lefts rights count (suc n) more)
 unfolding certified_behind
 certified-more lefts rights count n more = refl

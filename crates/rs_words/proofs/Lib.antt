@@ -5,3 +5,6 @@ pub mod FaultFacts
 pub mod CertifyFacts
 pub mod VerdictFacts
 pub mod CheckedFacts
+pub mod ReplayFacts
+pub mod FeedFileFacts
+pub mod GoodFacts

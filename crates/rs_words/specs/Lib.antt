@@ -6,3 +6,4 @@ pub mod TwoFeeds
 pub mod Feeding
 pub mod Certifying
 pub mod Checking
+pub mod GoodCerts

@@ -1,7 +1,7 @@
 //! The words of the command line that work on ranked feeds and on certificates of their joins: what each fetches, puts and refuses.
 //!
-//! Its promise: a word makes exactly the events of its definition, up to a halt; its answer tells that halt; and it draws of a
-//! feed no more than what it has put takes.
+//! Its promise: a word makes exactly the events of its definition, up to a halt; its answer tells that halt; it draws of a feed no
+//! more than what it has put takes; and a certificate that one word puts is one to which the other says yes.
 #![tactic(auto)]
 
 mod certifying;
@@ -10,9 +10,11 @@ mod fault;
 mod feed_file;
 mod feeding;
 mod joining;
+mod laws;
 mod lines;
 
 pub use certifying::cert_word;
 pub use checking::check_word;
 pub use fault::WordFault;
 pub use feeding::feed_word;
+pub use laws::certificates_are_checked_as_good;

@@ -1,4 +1,4 @@
-use Rattle.std.proofs.Common.{◌≡◌, ℕ, List, subst, sym}
+use Rattle.std.proofs.Common.{ℕ, List, subst, sym}
 use Rattle.std.specs.Prelude.{Err, Ok}
 use Rattle.rs_value.proofs.ResultFacts.{given-err}
 use Rattle.rs_syntax.specs.Syntax.{query_of}

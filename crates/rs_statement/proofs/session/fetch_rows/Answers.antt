@@ -3,7 +3,7 @@ use Rattle.std.specs.Prelude.{IfOk}
 use Rattle.rs_catalog.specs.Snapshot.{HaveRows, snapshot}
 use Rattle.rs_exec.specs.Cursors.{StandsFor, asks_of}
 use Rattle.rs_statement.specs.Lines.{rank_lines}
-use Rattle.rs_statement.specs.Parts.Session.{IsAskedMore, asked_of, next_of, next_of_cursor, rows_step, source_of, wanted_step}
+use Rattle.rs_statement.specs.Parts.Session.{IsAskedMore, asked_of, next_of, next_of_cursor, source_of, wanted_step}
 use Rattle.rs_statement.specs.Parts.Steps.{Ran, Stepped}
 use Rattle.rs_events.specs.Run.{lines_run}
 use Rattle.rs_statement.specs.Session.{ByPlan, next_rows}

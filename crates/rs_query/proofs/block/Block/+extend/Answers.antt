@@ -8,7 +8,7 @@ use Rattle.rs_query.proofs.AddsFacts.{Adds-none}
 use Rattle.rs_query.proofs.ExtendFacts.{HasRows-choice}
 use Rattle.rs_query.proofs.GoFacts.{GoesOn-fails, GoesOn-whole, IsBegun-longer, passed-all, passed-more, passed-none}
 use Rattle.rs_query.proofs.StepsFacts.{AreSteps-inside}
-use Rattle.rs_query.proofs.WalkFacts.{HasRows-longer, conditions-inside, no-step, tie-row}
+use Rattle.rs_query.proofs.WalkFacts.{HasRows-longer, conditions-inside, no-step}
 use Rattle.rs_query.proofs.block.Block.+extend.Goals as goal
 use Rattle.rs_query.proofs.block.Block.+extend.Goals.{then-holds+in_ok-extend, else-holds}
 
@@ -19,17 +19,18 @@ returns-in_default t c =
     subst (λ steps. Adds (GoesOn c.args.catalog.now c.args.self.now steps c.args.mask c.args.rows) c.args.found.now.items c.push.new.self.items) (sym none)
     (GoesOn-whole c.args.catalog.now c.args.self.now c.requires.block c.args.mask c.args.rows c.args.found.now.items c.push.new.self.items whole c.requires.begun c.in_ok-push.ensures.items)
 
-pub first-row-requires-clause-row : goal.first-row-requires-clause-row
-first-row-requires-clause-row t c =
-    let are = subst (AreSteps c.args.catalog.now c.args.self.now c.args.mask (all_entries c.args.self.now)) c.in-Some.ensures.cases.0 c.requires.steps in
-    tie-row c.args.catalog.now c.args.self.now c.requires.block c.args.mask c.in-Some.step.now are.0 c.args.rows
-    (HasRows-choice c.args.catalog.now c.args.self.now c.args.mask c.args.rows c.requires.block.most_entries c.requires.begun.choice)
+pub first-row-requires-clause-step : goal.first-row-requires-clause-step
+first-row-requires-clause-step t c =
+    let are = subst (AreSteps c.args.catalog.now c.args.self.now c.args.mask (all_entries c.args.self.now)) c.in-Some.ensures.cases.0 c.requires.steps in (
+      c.args.mask,
+      are.0,
+      HasRows-choice c.args.catalog.now c.args.self.now c.args.mask c.args.rows c.requires.block.most_entries c.requires.begun.choice,
+    )
 
 pub loop-row-init : goal.loop-row-init
 loop-row-init t c =
     let are = subst (AreSteps c.args.catalog.now c.args.self.now c.args.mask (all_entries c.args.self.now)) c.in-Some.ensures.cases.0 c.requires.steps in
-    let have = HasRows-choice c.args.catalog.now c.args.self.now c.args.mask c.args.rows c.requires.block.most_entries c.requires.begun.choice in
-    let next = c.first-row.ensures c.args.catalog.now c.args.self.now c.args.mask are.0 have in
+    let next = c.first-row.ensures in
     record {
       found = passed-none c.args.catalog.now c.args.self.now c.requires.block c.args.mask c.in-Some.step.now c.args.rows are.0 c.in-Some.rest.now c.first-row.result c.args.found.now.items next;
       fits = λ some. next.there some;
@@ -75,6 +76,14 @@ extend-requires t c =
       ),
     )
 
+pub next-row-requires-clause-step : goal.next-row-requires-clause-step
+next-row-requires-clause-step t c =
+    let are = subst (AreSteps c.args.catalog.now c.args.self.now c.args.mask (all_entries c.args.self.now)) c.in-Some.ensures.cases.0 c.requires.steps in (
+      c.args.mask,
+      are.0,
+      HasRows-choice c.args.catalog.now c.args.self.now c.args.mask c.args.rows c.requires.block.most_entries c.requires.begun.choice,
+    )
+
 pub loop-row-preserved : goal.loop-row-preserved
 loop-row-preserved t c =
     let catalogue = c.args.catalog.now in
@@ -88,7 +97,7 @@ loop-row-preserved t c =
     let more : c.union-more.result ≡ now = c.union-more.ensures ∙ ap (bit_or mask) c.mask_of.ensures in
     let some : 1 ≤ c.loop-row.row = omega arith in
     let fits = c.loop-row.invariant.fits some in
-    let next = c.next-row.ensures catalogue block mask c.args.rows are.0 fits.2 in
+    let next = c.next-row.ensures in
     let part : Adds (GoesOn catalogue block rest now longer) c.loop-row.found.items c.if-holds.found.items = elim c.if-holds.branch [
       | then-holds+in_ok-extend w ↦
           subst (λ (v : Vec (List ℕ) Global). Adds (GoesOn catalogue block rest now longer) c.loop-row.found.items v.items) (sym w.found-is)

@@ -1,8 +1,7 @@
 -- The keys stand for the cells of both columns.
-use Rattle.std.proofs.Common.{ℕ, List, Some, ◌∙◌, Bor, refl, sym, ap, subst}
+use Rattle.std.proofs.Common.{ℕ, List, Bor, sym, subst}
 use Rattle.std.specs.Cmp.Lexicographic.{slice_cmp}
 use Rattle.std.specs.Ordering.{int_cmp, nat_cmp}
-use Rattle.rs_value.specs.declared.kind.Kind.TheVariants as kind
 use Rattle.rs_value.specs.declared.value.Value.TheVariants as value
 use Rattle.rs_query.specs.EqualRows.{AreKeys}
 use Rattle.rs_query.specs.Searching.{cell_of}
@@ -12,16 +11,14 @@ use Rattle.rs_query.proofs.block.Block.equal_rows.Goals as goal
 
 pub returns-in_ok-rights-in-Int : goal.returns-in_ok-rights-in-Int
 returns-in_ok-rights-in-Int c =
-    AreEqualRows-result int_cmp value.Int exact-numbers c.args.catalog.now c.args.self.now c.args.left c.args.right kind.Int (λ key. refl)
-    (c.kind.ensures ∙ ap Some c.in-Int.is) c.requires.kinds c.deref.result.now c.in_ok-rights-in-Int.rights.items
+    AreEqualRows-result int_cmp value.Int exact-numbers c.args.catalog.now c.args.self.now c.args.left c.args.right c.deref.result.now c.in_ok-rights-in-Int.rights.items
     (subst (AreKeys value.Int (cell_of c.args.catalog.now c.args.self.now c.args.left) (size_of c.args.catalog.now c.args.self.now c.args.left.0)) (sym c.deref.ensures.value) c.in_ok-lefts-in-Int.ensures.keys)
     c.in_ok-rights-in-Int.ensures.keys c.of.result c.of.ensures.first c.of.ensures.next c.of.ensures.lefts c.of.ensures.rights
 
 pub returns-in_ok-rights-in-Text : goal.returns-in_ok-rights-in-Text
 returns-in_ok-rights-in-Text c =
     AreEqualRows-result (λ (a b : Bor (List ℕ)). slice_cmp nat_cmp a.now b.now) (λ (text : Bor (List ℕ)). value.Text text.now) (λ a b. exact-texts a.now b.now)
-    c.args.catalog.now c.args.self.now c.args.left c.args.right kind.Text (λ key. refl)
-    (c.kind.ensures ∙ ap Some c.in-Text.is) c.requires.kinds c.deref-in-Text.result.now c.in_ok-rights-in-Text.rights.items
+    c.args.catalog.now c.args.self.now c.args.left c.args.right c.deref-in-Text.result.now c.in_ok-rights-in-Text.rights.items
     (subst (AreKeys (λ (text : Bor (List ℕ)). value.Text text.now) (cell_of c.args.catalog.now c.args.self.now c.args.left) (size_of c.args.catalog.now c.args.self.now c.args.left.0)) (sym c.deref-in-Text.ensures.value)
     c.in_ok-lefts-in-Text.ensures.keys)
     c.in_ok-rights-in-Text.ensures.keys c.of-in-Text.result c.of-in-Text.ensures.first c.of-in-Text.ensures.next c.of-in-Text.ensures.lefts c.of-in-Text.ensures.rights

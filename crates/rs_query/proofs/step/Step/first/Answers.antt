@@ -1,10 +1,18 @@
--- The first row with an equal cell, where it isn't behind the last one.
-use Rattle.std.proofs.Common.{◌-◌, get_or, sym}
-use Rattle.std.proofs.lemmas.Option.{unwrap_or-slice_get}
-use Rattle.rs_query.proofs.TieFacts.{first-fits}
+-- The first row that fits the tie is the first one of the step.
+use Rattle.rs_query.proofs.WalkFacts.{tie-first, tie-last, tie-of}
 use Rattle.rs_query.proofs.step.Step.first.Goals as goal
 
+pub first-requires-clause-tied : goal.first-requires-clause-tied
+first-requires-clause-tied c =
+    let step = c.requires.step in
+    (step.0, c.args.self.now.entry, tie-of c.args.catalog.now c.args.block.now c.requires.block step.0 c.args.self.now step.1 c.in-Some.tie c.in-Some.is, step.2)
+
+pub first-requires-clause-last : goal.first-requires-clause-last
+first-requires-clause-last c =
+    let step = c.requires.step in
+    tie-last c.args.catalog.now c.args.block.now c.requires.block step.0 c.args.self.now step.1 c.in-Some.tie c.in-Some.is
+
 pub returns-in-Some : goal.returns-in-Some
-returns-in-Some c = λ catalogue block mask is_step rows_in.
-    first-fits catalogue block mask c.args.self.now c.in-Some.tie is_step c.in-Some.is c.args.rows.now (get_or c.args.rows.now (c.in-Some.tie.left.0 - 1) 0) c.first.result c.up_to.result rows_in
-    (sym (unwrap_or-slice_get c.args.rows.now (c.in-Some.tie.left.0 - 1) 0)) c.first.ensures c.up_to.ensures
+returns-in-Some c =
+    let step = c.requires.step in
+    tie-first c.args.catalog.now c.args.block.now c.requires.block step.0 c.args.self.now step.1 c.in-Some.tie c.in-Some.is c.args.rows.now c.first.result c.first.ensures
