@@ -5,7 +5,8 @@
 # Before that it counts the allocations of runs over a table of 1,000 rows that print more or fewer rows, or call the scorer
 # more or less often: a printed row takes its values alone, and a call with numbers none. A row that a condition on texts is
 # tested on takes none either.
-# The word `feed` joins two feeds of five rows, and `ta` scans two indexes of four.
+# The words `feed` and `cert` join two feeds of five rows, `check` reads the certificate, `ta` scans two indexes of four, and `view` keeps
+# two views.
 # A join by a hash and a union are executed by the program cases_plans, whichever plan `run` would choose. That program
 # tells its input line by line, and names the line at which there is no memory, if it had begun with one.
 # A test of the program test_units_tests puts rows into a table, which has to stay as it was where one can't join. One of
@@ -251,6 +252,38 @@ printf '1,17,8\n2,13,10\n' >asked.wanted
 printf 'key,score\na,9\nb,8\na,7\nc,5\nb,1\n' >fl.csv
 printf 'key,score\nb,9\na,6\nc,6\na,2\nd,1\n' >fr.csv
 printf '1,17,b,8,9\n2,15,a,9,6\n3,13,a,7,6\n4,11,a,9,2\n5,11,c,5,6\n6,10,b,1,9\n7,9,a,7,2\nleft=6 right=6\n' >feed.wanted
+# All pairs of these feeds, behind all rows and both ends.
+cat >cert.wanted <<'CERT'
+cert,1,9
+left,9,a
+left,8,b
+left,7,a
+left,5,c
+left,1,b
+left,end,end
+right,9,b
+right,6,a
+right,6,c
+right,2,a
+right,1,d
+right,end,end
+pair,2,1
+pair,1,2
+pair,3,2
+pair,1,4
+pair,4,3
+pair,5,1
+pair,3,4
+CERT
+cp cert.wanted c.csv
+printf 'yes\n' >check.wanted
+# Two views, which rows join, one of a table with itself.
+cat base - >views.sql <<'SQL'
+DECLARE k CURSOR FOR SELECT x FROM t ORDER BY p(x) + q(y) LIMIT 2; FETCH 5 FROM k;
+DECLARE n CURSOR FOR SELECT x.name, y.name FROM h x, h y WHERE x.city = y.city ORDER BY near(x.price, y.price) LIMIT 3;
+INSERT INTO t VALUES (9, 10), (9, 8); FETCH 5 FROM k; INSERT INTO h VALUES ('d', 90, 1); FETCH 3 FROM n;
+SQL
+printf '1,17,8\n2,13,10\n1,19,9\n2,17,8\n1,100,a,a\n2,100,b,b\n3,100,b,d\n' >views.wanted
 printf '3\n9\n1\n10\n' >answers
 printf 'q,3,a,3\nq,9,a,9\nq,1,a,1\nq,10,a,10\n' >kept
 : >nothing
@@ -264,6 +297,9 @@ run() {
         plan | first | tables | forms | nested | cursors | grows | rows | index | calls) words=("$program" run "$1.sql" 1) ;;
         scan) words=("$program" ta scan.sql) ;;
         feed) words=("$program" feed fl.csv fr.csv 9) ;;
+        cert) words=("$program" cert fl.csv fr.csv 9) ;;
+        check) words=("$program" check c.csv) ;;
+        views) words=("$program" view views.sql) ;;
         hashed | united) words=("$cases") input=$1.sql ;;
         asked) words=("$ask" q scores /dev/null answers run asked.sql 1) ;;
     esac
@@ -307,7 +343,7 @@ try_each() {
         return
     fi
     total=$(cat count)
-    if [ "$total" -lt 100 ]; then
+    if [ "$total" -lt 30 ]; then
         echo "FAILED  $name: only $total allocations are seen, so those of the program do not go through the library"
         failures=$((failures + 1))
         return
@@ -448,7 +484,7 @@ compare calls '' 'level(rating)' 10 'level(rating) + recent(year)' 10
 compare_conditions tested_plainly plain
 compare_conditions tested_by_plans run 1
 
-names=(join union ready grown plan first tables forms nested cursors grows scan feed)
+names=(join union ready grown plan first tables forms nested cursors grows scan feed cert check views)
 if [ $# -gt 0 ]; then
     names=("$@")
 elif [ -x "$cases" ]; then
