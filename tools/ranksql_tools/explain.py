@@ -1,6 +1,6 @@
 """Explains a fault line: the line of the script with a caret, the rows of a file, and a sentence that says what to do."""
 
-from ranksql_tools import bind_advice, command_advice, data_advice, parse_advice
+from ranksql_tools import bind_advice, certificate_advice, command_advice, data_advice, parse_advice
 from ranksql_tools.faults import read_fault
 from ranksql_tools.foreign_advice import foreign_word
 from ranksql_tools.script_parse import parse
@@ -80,6 +80,8 @@ def of_data(fault, words, body):
         token, lines, says = data_advice.of_score(fault, parser)
     elif fault.kind == "table" and fault.variant == "HeaderDiffers" and words[:1] in (["feed"], ["cert"]):
         lines, says = data_advice.of_feed_header(fault)
+    elif fault.kind == "table" and fault.variant in ("CertForm", "CertTooLong"):
+        lines, says = certificate_advice.of_certificate(fault)
     elif fault.kind == "table":
         token, lines, says = data_advice.of_table(fault, parser)
     else:

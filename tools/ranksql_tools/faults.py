@@ -8,7 +8,8 @@ INELIGIBLE = re.compile(r"script: (ta|view) NotEligible statement (\d+)")
 SCORE = re.compile(r"score: (.*) rows((?: \d+)+): (-?\d+) is not in 0\.\.(\d+)")
 TABLE = re.compile(
     r"table: (.*): (NoHeader|NoColumn|TooManyRows|TooManyColumns found \d+|HeaderDiffers column \d+"
-    r"|FieldCount row \d+ found \d+|NotUtf8 row \d+ column \d+|NotInt row \d+ column \d+|OutOfOrder row \d+ before \d+ got \d+)",
+    r"|FieldCount row \d+ found \d+|NotUtf8 row \d+ column \d+|NotInt row \d+ column \d+|OutOfOrder row \d+ before \d+ got \d+"
+    r"|CertTooLong|CertForm record \d+)",
     re.DOTALL,
 )
 READ = re.compile(r"read: (.*): (missing|too long|failed)", re.DOTALL)
