@@ -93,8 +93,8 @@ fn grow_behind<S: Scorer>(
     requires stands { Stands (S.state scorer.old).answer catalog.old view.old }
     ensures { Stands (S.state scorer.new).answer catalog.new view.new }
 {
-    join(alloc, catalog, statement, scorer)?;
     views_go_on_to_stand();
+    join(alloc, catalog, statement, scorer)?;
     match view.grow(alloc, catalog, scorer) {
         Ok(()) => tell_rows(view.rows(), told),
         Err(fault) => tell_fault(fault, told),
