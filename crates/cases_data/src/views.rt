@@ -53,13 +53,29 @@ fn tell_along<S: Scorer>(
     match View::make(alloc, catalog, query, scorer) {
         Ok(mut view) => {
             tell_rows(view.rows(), told)?;
-            for statement in inserts {
-                grow_behind(alloc, catalog, &mut view, statement, scorer, told)?;
-            }
-            Ok(())
+            grow_along(alloc, catalog, &mut view, inserts, scorer, told)
         }
         Err(fault) => tell_fault(fault, told),
     }
+}
+
+/// Lets a view grow behind the rows of each of these INSERTs, one after another.
+fn grow_along<S: Scorer>(
+    alloc: Global,
+    catalog: &mut Catalog,
+    view: &mut View,
+    inserts: &[Statement],
+    scorer: &mut S,
+    told: &mut String,
+) -> Result<(), Fault>
+    requires written { AreWritten (commands_of inserts.now) }
+    requires stands { Stands (S.state scorer.old).answer catalog.old view.old }
+{
+    let Some((first, rest)) = inserts.split_first() else {
+        return Ok(());
+    };
+    grow_behind(alloc, catalog, view, first, scorer, told)?;
+    grow_along(alloc, catalog, view, rest, scorer, told)
 }
 
 /// The query of a statement, where a view of it may be kept.
