@@ -183,7 +183,11 @@ class Document:
             return
         if what and COMMAND.match(what[0]) and not PRINTED.match(what[0]):
             for command in whole_commands(what):
-                self.command(command, True)
+                # What a command prints stands in a block of its own.
+                if COMMAND.match(command):
+                    self.command(command, True)
+                else:
+                    tell(False, f"{self.name}: {command.splitlines()[0]}", "it is no command, and stands among commands")
 
     def command(self, line, must_run):
         if FORM.search(line.splitlines()[0]):
