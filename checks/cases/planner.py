@@ -7,7 +7,7 @@ signature is computed from those of lesser ones. The cases are the last ones of 
 crates/cases_plans/stdout. This makes them anew, at the top of the repository:
 
     cases=crates/cases_plans
-    sed -i -e '/^# Tests of rs_exec/e python3 checks/planner.py; echo' \
+    sed -i -e '/^# Tests of rs_exec/e python3 checks/cases/planner.py; echo' \
         -e '/^# Random .*planner.py/,/^# Tests of rs_exec/{/^# Tests/!d}' $cases/stdout
     grep -v '^  ' $cases/stdout >$cases/stdin
 """
@@ -455,7 +455,7 @@ def tell_queries(chance, count, most=MOST):
 
 
 def main():
-    print("# Random tables, and the least plans of queries of one to three entries and terms: see checks/planner.py.")
+    print("# Random tables, and the least plans of queries of one to three entries and terms: see checks/cases/planner.py.")
     chance = random.Random(4)
     tell_queries(chance, 13)
     print("# Queries of six entries and eight terms, over tables of two or three rows.")

@@ -2,8 +2,8 @@
 """Makes docs/INVENTORY.md: the crates by layer with what each promises, the definitions by file, and the files of lemmas
 that proofs of other crates cite.
 
-    checks/inventory.py           fails where docs/INVENTORY.md isn't what the sources say
-    checks/inventory.py --write   writes docs/INVENTORY.md
+    checks/gate/inventory.py           fails where docs/INVENTORY.md isn't what the sources say
+    checks/gate/inventory.py --write   writes docs/INVENTORY.md
 
 It reads crates.txt, the first doc comment of each crate's lib.rt or main.rt, the first comment of each file of `specs`, and
 the imports of `proofs`. It fails too where a crate stands in no layer or in front of a crate that it stands on, where a
@@ -136,7 +136,7 @@ def inventory():
     lines = [
         "# Inventory",
         "",
-        "`checks/inventory.py --write` makes this file from the sources, and the gate fails where it is stale.",
+        "`checks/gate/inventory.py --write` makes this file from the sources, and the gate fails where it is stale.",
         "",
         "## Crates",
         "",
@@ -155,14 +155,14 @@ def inventory():
 
 
 def main():
-    os.chdir(os.path.join(os.path.dirname(os.path.abspath(__file__)), ".."))
+    os.chdir(os.path.join(os.path.dirname(os.path.abspath(__file__)), "..", ".."))
     made = inventory()
     check_documents()
     if sys.argv[1:] == ["--write"]:
         with open(PATH, "w", encoding="utf-8") as file:
             file.write(made)
     elif not os.path.exists(PATH) or read(PATH) != made:
-        faults.append(f"{PATH} is stale: run checks/inventory.py --write, and commit it")
+        faults.append(f"{PATH} is stale: run checks/gate/inventory.py --write, and commit it")
     for fault in faults:
         print(f"FAILED  {fault}")
     if faults:

@@ -3,7 +3,7 @@
 # prints a line for each that isn't there, with its place, and ends with 1 where there is one. What the words of a promise
 # say is not looked at. Where the document has the heading `Answers and their causes`, each public call of a library whose
 # answer is a Result or an Option has to stand in the table below it. Another document of the same form may be named:
-# checks/promises.sh [FILE].
+# checks/gate/promises.sh [FILE].
 set -u -o pipefail
 export LC_ALL=C
 
@@ -12,7 +12,7 @@ case $document in
     /*) ;;
     *) [ $# -gt 0 ] && document=$PWD/$document ;;
 esac
-root=$(cd "$(dirname "$0")/.." && pwd -P) || exit 1
+root=$(cd "$(dirname "$0")/../.." && pwd -P) || exit 1
 cd "$root" || exit 1
 if [ ! -r "$document" ]; then
     echo "FAILED  $document cannot be read"

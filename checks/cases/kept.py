@@ -3,11 +3,14 @@
 and grows behind each INSERT. Queries and their calls are those of queries.py. This makes the cases anew, at the top of the repository:
 
     cases=crates/cases_data
-    python3 checks/kept.py <$cases/stdout >cases.new && mv cases.new $cases/stdout
+    python3 checks/cases/kept.py <$cases/stdout >cases.new && mv cases.new $cases/stdout
 """
 
+import os
 import re
 import sys
+
+sys.path.insert(0, os.path.join(os.path.dirname(os.path.abspath(__file__)), "..", "model"))
 
 import runs
 from queries import Ended, Unread, Words, read_query

@@ -16,7 +16,7 @@ import tempfile
 import threading
 import time
 
-ROOT = pathlib.Path(__file__).resolve().parent.parent
+ROOT = pathlib.Path(__file__).resolve().parent.parent.parent
 ASK = os.environ.get("RANKSQL_ASK", str(ROOT / "crates/ranksql_ask/out/ranksql_ask"))
 PLAIN = os.environ.get("RANKSQL", str(ROOT / "crates/ranksql/out/ranksql"))
 

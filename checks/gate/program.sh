@@ -5,7 +5,7 @@
 set -u -o pipefail
 export LC_ALL=C
 
-root=$(cd "$(dirname "$0")/.." && pwd -P)
+root=$(cd "$(dirname "$0")/../.." && pwd -P)
 built=$root/crates/ranksql/out/ranksql
 program=${RANKSQL:-$built}
 usage='usage: ranksql top FILE COLUMN MAX K, run SCRIPT SEED, plain SCRIPT, gen NUMBER ROWS, ta SCRIPT, feed LEFT RIGHT K, cert LEFT RIGHT K, check FILE, view SCRIPT'
@@ -334,7 +334,7 @@ while IFS= read -r line; do
 done < <(cd "$root/examples/travel" && cat plans.out analyzed.out && sed -s -n '/^EXPLAIN/,/;$/p' plans.sql analyzed.sql)
 while IFS= read -r line; do
     grep -qxF -e "    $line" "$root/docs/FORMATS.md" || failed "FORMATS.md doesn't have the line: $line"
-done < <(tail -n 7 "$root/checks/gen_7_600.out")
+done < <(tail -n 7 "$root/checks/gate/gen_7_600.out")
 
 # docs/GRAMMAR.md shows what guides.sql prints.
 while IFS= read -r line; do
@@ -557,7 +557,7 @@ for of in best:yes 'changed:no Right'; do
 done
 
 # The index of the example calls its predicate for each of the 5,000 films. examples/films/README.md counts the other calls. Those under
-# `run` are also what checks/runs.py tells.
+# `run` are also what checks/model/runs.py tells.
 # count NAME WANTED WORD..
 count() {
     (cd "$root" && timeout 60 "$counter" "${@:3}" >/dev/null 2>"$work/said/err" </dev/null)
@@ -630,8 +630,8 @@ Rank term 2 est=1 cost=59 asked=2 gave=1 calls=1
 '
 expect 'generated tables of one row, and the plan' 0 "$text" '' -- gen 0 1
 expect 'the same by numbers of 20 digits' 0 "$text" '' -- gen 00000000000000000000 00000000000000000001
-# What is wanted was worked out by another program, checks/runs.py.
-text=$(cat "$root/checks/gen_7_600.out" && echo .)
+# What is wanted was worked out by another program, checks/model/runs.py.
+text=$(cat "$root/checks/gate/gen_7_600.out" && echo .)
 expect 'generated tables of 600 rows, and the plan' 0 "${text%.}" '' -- gen 7 600
 timeout 60 "$program" gen 7 600 >/dev/full 2>"$work/said/err"
 echo $? >"$work/said/status"
@@ -639,10 +639,10 @@ echo $? >"$work/said/status"
 compare 'a full device under generated tables' 4 '' $'write\n'
 if command -v python3 >/dev/null 2>&1; then
     mkdir generated
-    python3 "$root/checks/generated.py" 7 600 generated
+    python3 "$root/checks/model/generated.py" 7 600 generated
     (cd generated && timeout 60 "$program" plain gen.sql >"$work/said/out" 2>"$work/said/err" </dev/null)
     echo $? >"$work/said/status"
-    compare 'the same tables from files, plainly' 0 "$(head -n 10 "$root/checks/gen_7_600.out")"$'\n' ''
+    compare 'the same tables from files, plainly' 0 "$(head -n 10 "$root/checks/gate/gen_7_600.out")"$'\n' ''
     (cd generated && timeout 60 "$program" run gen.sql 7 >"$work/said/out" 2>"$work/said/err" </dev/null)
     echo $? >"$work/said/status"
     compare 'the same tables from files, by a plan' 0 "${text%.}" ''

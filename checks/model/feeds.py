@@ -1,24 +1,7 @@
-#!/usr/bin/env python3
-r"""Works out what joins of ranked feeds give and draw, and prints it as the cases of the crate test_feeds.
+"""What joins of ranked feeds give and draw.
 
-The feeds are small and random, with many equal scores. Two thirds of the joins have feeds with a score that rises at some place. What a
-join gives is computed as it is defined, over finished lists: the rows in front of the first that rises, their pairs by their sums,
-and the asks by the keys of rows merged with the first row of the other side. There are no thresholds and no held pairs here. This
-makes the cases anew, at the top of the repository:
-
-    python3 checks/feeds.py >crates/test_feeds/src/cases.rt
-    rt fmt crates/test_feeds
-"""
-
-import random
-
-LETTERS = "abc"
-CASES = 8
-MOST = 4294967295
-HEAD = """//! Joins of random feeds: see checks/feeds.py.
-
-use crate::random::Case;
-
+It is computed as it is defined, over finished lists: the rows in front of the first that rises, their pairs by their sums, and the
+asks by the keys of rows merged with the first row of the other side. There are no thresholds and no held pairs here.
 """
 
 
@@ -70,38 +53,3 @@ def joined(feeds):
         if place < len(keys):
             given.append((*keys[place][1:], *draws_of(asks)))
     return given, (0, 0, 0, 0), draws_of(asks)
-
-
-def random_feed(draw, rises):
-    base = draw.choice([0, 0, MOST - 4])
-    scores = sorted((base + draw.randrange(5) for _ in range(draw.randrange(7))), reverse=True)
-    if rises and len(scores) > 1:
-        place = draw.randrange(1, len(scores))
-        if scores[place - 1] < base + 4:
-            scores[place] = draw.randrange(scores[place - 1] + 1, base + 5)
-    return [(draw.choice(LETTERS), score) for score in scores]
-
-
-def written(items):
-    return "&[" + ", ".join(items) + "]"
-
-
-def rows_written(feed):
-    return written(f'("{text}", {score})' for text, score in feed)
-
-
-def main():
-    draw = random.Random(20261130)
-    print(HEAD, end="")
-    for name, rises in ("FALLING", False), ("RISING", True), ("OTHERS", True):
-        print(f"pub(crate) const {name}: &[Case] = &[")
-        for _ in range(CASES):
-            feeds = [random_feed(draw, rises), random_feed(draw, rises)]
-            given, stop, draws = joined(feeds)
-            pairs = written(str(pair) for pair in given)
-            print(f"    ({rows_written(feeds[0])}, {rows_written(feeds[1])}, {pairs}, {stop}, {draws}),")
-        print("];")
-
-
-if __name__ == "__main__":
-    main()

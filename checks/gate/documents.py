@@ -23,7 +23,7 @@ import sys
 import tempfile
 import textwrap
 
-ROOT = os.path.dirname(os.path.dirname(os.path.realpath(__file__)))
+ROOT = os.path.dirname(os.path.dirname(os.path.dirname(os.path.realpath(__file__))))
 PROGRAM = os.path.abspath(os.environ.get("RANKSQL") or os.path.join(ROOT, "crates", "ranksql", "out", "ranksql"))
 
 DOCUMENTS = ["README.md", "docs", "examples"]

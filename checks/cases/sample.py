@@ -8,7 +8,7 @@ seeding of Rust's crate rand_core. The cases are the last ones of the tests of r
 crates/cases_plans/stdout, at its end. This makes them anew, at the top of the repository:
 
     cases=crates/cases_plans
-    sed -i '/^# Random .*sample.py/,$d' $cases/stdout && python3 checks/sample.py >>$cases/stdout
+    sed -i '/^# Random .*sample.py/,$d' $cases/stdout && python3 checks/cases/sample.py >>$cases/stdout
     grep -v '^  ' $cases/stdout >$cases/stdin
 """
 
@@ -231,7 +231,7 @@ def limit_text(limit):
     return "" if limit is None else f" LIMIT {limit}"
 
 
-print("# Random tables with more rows than are sampled: see checks/sample.py.")
+print("# Random tables with more rows than are sampled: see checks/cases/sample.py.")
 chance = random.Random(1)
 for entries, size, terms in (1, 300, 2), (2, 90, 3), (3, 40, 4), (4, 20, 3), (5, 11, 3), (6, 9, 3), (6, 8, 8):
     tables = [[[chance.randint(0, 80) for _ in "xy"] for _ in range(size + chance.randint(0, 9))] for _ in range(2)]

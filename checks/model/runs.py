@@ -6,24 +6,24 @@ name, a type or a file of a script is refused, and words of no form. Of refused 
 aren't UTF-8, and those whose INSERT is refused. This makes the cases anew, at the top of the repository:
 
     cases=crates/cases_runs
-    python3 checks/runs.py <$cases/stdout >cases.new && mv cases.new $cases/stdout && grep -v '^  ' $cases/stdout >$cases/stdin
+    python3 checks/model/runs.py <$cases/stdout >cases.new && mv cases.new $cases/stdout && grep -v '^  ' $cases/stdout >$cases/stdin
 
 With a script and a seed it tells of a run in the current folder: what it prints, and how many calls it makes, of an index, of a
 sample, and behind these, and how many of the last come before the first row.
 
-    python3 checks/runs.py examples/films/best.sql 1
+    python3 checks/model/runs.py examples/films/best.sql 1
 
 With the word `gen`, a number and a number of rows it prints what that word does.
 
-    python3 checks/runs.py gen 7 600
+    python3 checks/model/runs.py gen 7 600
 
 With the word `ta` and a script it prints what that word does in the current folder.
 
-    python3 checks/runs.py ta examples/films/threshold.sql
+    python3 checks/model/runs.py ta examples/films/threshold.sql
 
 With the word `view` and a script it does the same, and tells how many calls it makes, and how many of these are of an index.
 
-    python3 checks/runs.py view examples/offers/board.sql
+    python3 checks/model/runs.py view examples/offers/board.sql
 """
 
 import csv

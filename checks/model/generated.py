@@ -1,6 +1,6 @@
 """The four files that the word `gen` makes from a number and a number of rows, by their description in docs/FORMATS.md.
 
-    python3 checks/generated.py 7 600 /tmp/files
+    python3 checks/model/generated.py 7 600 /tmp/files
 
 writes them into a folder.
 """

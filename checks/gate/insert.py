@@ -1,6 +1,8 @@
+#!/usr/bin/env python3
 """Runs the built program on scripts with INSERT, each plainly and by plans: rows of each kind and of none, rows up to the limits of
 a statement and of a table and one more, indexes whose calls fail one after another, and rows that join while 64 cursors are open.
-Each script has to end and print the same under both words. See insert.sh, which calls this.
+Each script has to end and print the same under both words. The program is
+crates/ranksql/out/ranksql, or the one that the variable RANKSQL names.
 
 What is wanted was worked out by hand, or by sorting rows here. Calls are counted by the program count_calls, where it is built; it is
 crates/count_calls/out/count_calls, or the one that the variable COUNT_CALLS names. It prints a line `ok` for each case, or what differs, and ends
@@ -13,7 +15,7 @@ import subprocess
 import sys
 import tempfile
 
-ROOT = os.path.dirname(os.path.dirname(os.path.abspath(__file__)))
+ROOT = os.path.dirname(os.path.dirname(os.path.dirname(os.path.abspath(__file__))))
 PROGRAM = os.environ.get("RANKSQL") or f"{ROOT}/crates/ranksql/out/ranksql"
 COUNTER = os.environ.get("COUNT_CALLS") or f"{ROOT}/crates/count_calls/out/count_calls"
 SECONDS = 120

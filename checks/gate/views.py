@@ -5,7 +5,7 @@ definitions, and what the word `plain` prints where each FETCH is the query aske
 where it is built; it is crates/count_calls/out/count_calls, or the one that the variable COUNT_CALLS names. It has to count as many
 as runs.py makes.
 
-    python3 checks/views.py 300
+    python3 checks/gate/views.py 300
 
 It prints a line for each script that fails, and ends with 1 where one does. Without a number there are 100 scripts.
 """
@@ -16,9 +16,11 @@ import subprocess
 import sys
 import tempfile
 
+sys.dont_write_bytecode = True
+sys.path.insert(0, os.path.join(os.path.dirname(os.path.abspath(__file__)), "..", "model"))
 import runs
 
-ROOT = os.path.dirname(os.path.dirname(os.path.abspath(__file__)))
+ROOT = os.path.dirname(os.path.dirname(os.path.dirname(os.path.abspath(__file__))))
 PROGRAM = os.environ.get("RANKSQL") or f"{ROOT}/crates/ranksql/out/ranksql"
 COUNTER = os.environ.get("COUNT_CALLS") or f"{ROOT}/crates/count_calls/out/count_calls"
 

@@ -12,14 +12,14 @@
 # A test of the program test_units_tests puts rows into a table, which has to stay as it was where one can't join. One of
 # test_feeds_tests joins two feeds: it has to give a front of the pairs, and draw no row that the next one doesn't take.
 # The program ranksql_ask runs a script whose scores it is told by a file. What it was told it has to keep, whole line by line.
-# Scripts may be named: checks/memory.sh NAME.., and with none all are run.
+# Scripts may be named: checks/gate/memory.sh NAME.., and with none all are run.
 # The programs are ranksql, cases_plans, ranksql_ask, test_units_tests and test_feeds_tests, each as crates/CRATE/out/PROGRAM, or
 # those that the variables RANKSQL, PLAN_CASES, RANKSQL_ASK, TABLE_TESTS and FEED_TESTS name. A C compiler is needed: the allocations
 # fail by a small library in front of the system's.
 set -u -o pipefail
 export LC_ALL=C
 
-root=$(cd "$(dirname "$0")/.." && pwd -P)
+root=$(cd "$(dirname "$0")/../.." && pwd -P)
 program=${RANKSQL:-$root/crates/ranksql/out/ranksql}
 cases=${PLAN_CASES:-$root/crates/cases_plans/out/cases_plans}
 ask=${RANKSQL_ASK:-$root/crates/ranksql_ask/out/ranksql_ask}
@@ -248,7 +248,7 @@ CREATE RANK INDEX px ON t (p(x));
 SELECT x FROM t ORDER BY p(x) + q(y, 'a') LIMIT 2;
 SQL
 printf '1,17,8\n2,13,10\n' >asked.wanted
-# The two feeds that checks/program.sh joins.
+# The two feeds that checks/gate/program.sh joins.
 printf 'key,score\na,9\nb,8\na,7\nc,5\nb,1\n' >fl.csv
 printf 'key,score\nb,9\na,6\nc,6\na,2\nd,1\n' >fr.csv
 printf '1,17,b,8,9\n2,15,a,9,6\n3,13,a,7,6\n4,11,a,9,2\n5,11,c,5,6\n6,10,b,1,9\n7,9,a,7,2\nleft=6 right=6\n' >feed.wanted

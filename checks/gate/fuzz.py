@@ -1,5 +1,7 @@
-"""Runs the built program on scripts that are made at random, beside runs.py, and prints the first case that differs. See fuzz.sh,
-which calls this: checks/fuzz.sh N SEED tries N cases, which are the same at each run with that seed.
+#!/usr/bin/env python3
+"""Runs the built program on scripts that are made at random, beside runs.py, and prints the first case that differs:
+checks/gate/fuzz.py N SEED tries N cases, which are the same at each run with that seed. The program is crates/ranksql/out/ranksql,
+or the one that the variable RANKSQL names.
 
 A case has small tables, and a script of the grammar, of which every second one has a few words exchanged, left out or doubled.
 Many terms have an index, most of these with a first score
@@ -16,11 +18,12 @@ import subprocess
 import sys
 import tempfile
 
-sys.path.insert(0, os.path.dirname(os.path.abspath(__file__)))
+sys.dont_write_bytecode = True
+sys.path.insert(0, os.path.join(os.path.dirname(os.path.abspath(__file__)), "..", "model"))
 import runs
 from queries import Ended, Words
 
-ROOT = os.path.dirname(os.path.dirname(os.path.abspath(__file__)))
+ROOT = os.path.dirname(os.path.dirname(os.path.dirname(os.path.abspath(__file__))))
 PROGRAM = os.environ.get("RANKSQL") or f"{ROOT}/crates/ranksql/out/ranksql"
 SECONDS = 60
 
@@ -301,7 +304,7 @@ def begin(folder):
 
 def main():
     if len(sys.argv) != 3 or not sys.argv[1].isdigit() or not sys.argv[2].isdigit():
-        print("usage: checks/fuzz.sh N SEED", file=sys.stderr)
+        print("usage: checks/gate/fuzz.py N SEED", file=sys.stderr)
         return 2
     if not os.access(PROGRAM, os.X_OK):
         print(f"there is no program {PROGRAM}: ./ranksql builds it", file=sys.stderr)

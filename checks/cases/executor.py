@@ -8,7 +8,7 @@ defined, over finished lists: there is no queue, no threshold and no set of valu
 of the tests of rs_exec in crates/cases_plans/stdout. This makes them anew, at the top of the repository:
 
     cases=crates/cases_plans
-    sed -i -e '/^# Tests of rs_sample/e python3 checks/executor.py; echo' \
+    sed -i -e '/^# Tests of rs_sample/e python3 checks/cases/executor.py; echo' \
         -e '/^# Random .*executor.py/,/^# Tests of rs_sample/{/^# Tests/!d}' $cases/stdout
     grep -v '^  ' $cases/stdout >$cases/stdin
 """
@@ -661,7 +661,7 @@ def tell_low_tops(chance):
 
 
 def main():
-    print("# Random tables, and all plans of queries of one, two and three terms: see checks/executor.py.")
+    print("# Random tables, and all plans of queries of one, two and three terms: see checks/cases/executor.py.")
     chance = random.Random(1)
     for size in (6, 8, 10):
         tell_one_table(chance, size)

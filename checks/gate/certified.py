@@ -1,8 +1,10 @@
 #!/usr/bin/env python3
-r"""Runs the built program on random feeds and certificates, and compares what it says with certificates.py and feeds.py. See certified.sh, which calls this.
+"""Runs the built program on random feeds and certificates, and compares what it says with certificates.py and feeds.py:
+checks/gate/certified.py [COUNT] tries 10,000 of them, or as many as are named. It prints what differs, and ends with 1 where something
+does. The program is crates/ranksql/out/ranksql, or the one that the variable RANKSQL names.
 
-Half of the certificates are those of the joins of random feeds; the others have one change: a score, a text, an end, a row, a pair, or K. At the end
-come the greatest ones: 8,192 rows of one text on both sides, for K = 1,000,000.
+Half of the certificates are those of the joins of random feeds; the others have one change: a score, a text, an end, a row, a pair,
+or K. At the end come the greatest ones: 8,192 rows of one text on both sides, for K = 1,000,000.
 """
 
 import os
@@ -13,10 +15,11 @@ import tempfile
 import time
 
 sys.dont_write_bytecode = True
-sys.path.insert(0, os.path.dirname(__file__))
+sys.path.insert(0, os.path.join(os.path.dirname(os.path.abspath(__file__)), "..", "model"))
 import certificates
 import feeds
 
+ROOT = os.path.dirname(os.path.dirname(os.path.dirname(os.path.abspath(__file__))))
 MOST = 4294967295
 GREAT, GREATEST = 8192, 1_000_000
 
@@ -83,7 +86,8 @@ def told(name, text):
 
 
 def main():
-    program, count = sys.argv[1], int(sys.argv[2])
+    count = int(sys.argv[1]) if len(sys.argv) > 1 else 10_000
+    program = os.environ.get("RANKSQL") or f"{ROOT}/crates/ranksql/out/ranksql"
     draw, kinds, failed = random.Random(19), {}, 0
     with tempfile.TemporaryDirectory() as folder:
         left, right, cert = (os.path.join(folder, name) for name in ("left.csv", "right.csv", "cert.csv"))

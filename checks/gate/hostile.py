@@ -1,6 +1,8 @@
+#!/usr/bin/env python3
 """Runs the built program under what a machine or hostile input may do to it: outputs that end, closed streams, pipes and folders in
 the place of files, files that change while they are read, the greatest inputs and one byte more, and odd bytes at each place.
-No run may crash, print a wrong line, or tell another fault than the right one. See hostile.sh, which calls this.
+No run may crash, print a wrong line, or tell another fault than the right one. The program is
+crates/ranksql/out/ranksql, or the one that the variable RANKSQL names.
 
 What is wanted was worked out by hand, or is said by runs.py. It prints a line `ok` for each case, or what differs, and ends
 with 1 where one fails.
@@ -16,10 +18,11 @@ import sys
 import tempfile
 import threading
 
-sys.path.insert(0, os.path.dirname(os.path.abspath(__file__)))
+sys.dont_write_bytecode = True
+sys.path.insert(0, os.path.join(os.path.dirname(os.path.abspath(__file__)), "..", "model"))
 import runs
 
-ROOT = os.path.dirname(os.path.dirname(os.path.abspath(__file__)))
+ROOT = os.path.dirname(os.path.dirname(os.path.dirname(os.path.abspath(__file__))))
 BUILT = f"{ROOT}/crates/ranksql/out/ranksql"
 PROGRAM = os.environ.get("RANKSQL") or BUILT
 SECONDS = 120
