@@ -14,11 +14,10 @@ import sys
 
 sys.path.insert(0, os.path.join(os.path.dirname(os.path.abspath(__file__)), "..", "model"))
 
-from feeds import joined
+from feeds import MOST, joined
 
 LETTERS = "abc"
 CASES = 8
-MOST = 4294967295
 HEAD = """//! Joins of random feeds: see checks/cases/feeds.py.
 
 use crate::random::Case;

@@ -5,6 +5,9 @@ asks by the keys of rows merged with the first row of the other side. There are 
 """
 
 
+MOST = 4294967295  # the greatest score
+
+
 def front_of(feed):
     """The rows in front of the first whose score is greater than that of the row before it."""
     for place in range(1, len(feed)):
