@@ -30,6 +30,11 @@ use std::alloc::Global;
 /// output columns agree (`SetColumnsDiffer`), those of the terms from left to right, and that of LIMIT. In a block they are
 /// those of the FROM entries from left to right, of the condition, and of the output columns from left to right. The maxima of the
 /// terms are their tops, as the rank indexes are now.
+///
+/// # Errors
+///
+/// - `At`: exactly where the query breaks a rule, with the first one in this order and its place.
+/// - `Memory`: at any call, in place of each answer.
 pub fn bind(alloc: Global, catalog: &Catalog, select: &Select) -> Result<Query, BindFault>
     requires written { IsWrittenQuery (query_of select.now) }
     ensures gives { Gives BindFault.Memory (bound_query catalog.now (query_of select.now)) result }

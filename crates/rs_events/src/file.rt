@@ -6,6 +6,10 @@ use rs_value::Text;
 use std::alloc::Global;
 
 /// The bytes of the file of this name, which are at most `limit`.
+///
+/// # Errors
+///
+/// - Those of `Files::fetch`, as the fetch answers.
 pub fn fetch_file<F: Files>(
     alloc: Global,
     file: &Text,

@@ -29,6 +29,11 @@ pub trait Scorer {
 
     /// The score of a predicate for these arguments, which have the kinds of its parameters. It may lie outside 0 to the
     /// predicate's greatest score.
+    ///
+    /// # Errors
+    ///
+    /// - `Failed`: only where the count of faults rose; of a steady scorer never. The call is told and counted.
+    /// - `Memory`: at any call, which isn't told.
     fn score(&mut self, predicate: &Predicate, args: &[Value]) -> Result<i128, ScorerFault>
         requires { all_fit predicate.now.params args.now ≡ true }
         ensures answers { Answers ((state self.old).answer predicate.now args.now) result }

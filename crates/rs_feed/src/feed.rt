@@ -21,6 +21,13 @@ pub trait Feed {
     ghost state: { Self → FeedState };
 
     /// The next row, or none at the end.
+    ///
+    /// # Errors
+    ///
+    /// - `None`: where the feed tells its rows and the draw doesn't fail, exactly where all were given; that is no
+    ///   fault.
+    /// - `Failed`: only where the count of faults rose; of a steady feed never.
+    /// - `Memory`: at any call.
     fn draw(&mut self) -> Result<Option<FeedRow>, FeedFault>
         ensures row { GivesNext (state self.old).outside.told (state self.old).given result }
         ensures told { (state self.new).outside.told ≡ (state self.old).outside.told }

@@ -59,6 +59,18 @@ impl FeedJoin {
     /// at the end.
     ///
     /// Both feeds are to be the ones of all calls, and no other is to draw of them.
+    ///
+    /// # Errors
+    ///
+    /// - `None`: where the feeds tell their rows, exactly behind the last pair of both fronts, unless a row is refused
+    ///   or a call fails before; where they tell none, the same for whatever rows they may have.
+    /// - `OutOfOrder`: where no call fails before, exactly where a drawn row's score is greater than that of the row
+    ///   before it, and the row isn't one too many.
+    /// - `TooLong`: where no call fails before, exactly where a row is drawn of a side that gave 131,072, whatever its
+    ///   score.
+    /// - `Failed`: only where that feed's count of faults rose; of a steady feed never.
+    /// - `Broken`: exactly where an earlier call failed.
+    /// - `Memory`: at any call; the join is broken from then on.
     pub fn next<L: Feed, R: Feed>(
         &mut self,
         left: &mut L,

@@ -116,6 +116,10 @@ fn lexeme_of(alloc: Global, script: &[u8], token: Token) -> Result<Lexeme, Memor
 
 /// What the tokens of a script are to the grammar, or the first ones of them. It takes time linear in the
 /// script's length.
+///
+/// # Errors
+///
+/// - `Memory`: at any call.
 pub fn lexemes(alloc: Global, script: &Text, tokens: &[Token]) -> Result<Vec<Lexeme>, Memory>
     requires { IsFront script.now tokens.now }
     ensures { IfOk result (λ made. made.items ≡ map (lexeme_of script.now) tokens.now) }

@@ -56,6 +56,10 @@ impl Outputs {
     }
 
     /// Adds these values, where they are none of the lists. Says whether they were none.
+    ///
+    /// # Errors
+    ///
+    /// - `Memory`: at any call where there is no room for a further list; the lists stay as they were.
     pub fn add(&mut self, values: Vec<Value>) -> Result<bool, Memory>
         ensures new { IfOk result (λ new. new ≡ not (has_list values.items self.old.lists)) }
         ensures ok { OnOk result (self.new.lists ≡ with_list values.items self.old.lists) }
@@ -78,6 +82,10 @@ impl Outputs {
     }
 
     /// Adds a copy of these values, where they are none of the lists. Says whether they were none.
+    ///
+    /// # Errors
+    ///
+    /// - `Memory`: at any call; the lists stay as they were.
     pub fn add_copy(&mut self, values: &[Value]) -> Result<bool, Memory>
         ensures new { IfOk result (λ new. new ≡ not (has_list values.now self.old.lists)) }
         ensures ok { OnOk result (self.new.lists ≡ with_list values.now self.old.lists) }
@@ -91,6 +99,10 @@ impl Outputs {
     }
 
     /// Makes room for a number of further lists.
+    ///
+    /// # Errors
+    ///
+    /// - `Memory`: at any call; the lists stay as they were.
     pub fn make_room(&mut self, more: usize) -> Result<(), Memory>
         ensures lists { self.new.lists ≡ self.old.lists }
         ensures room { OnOk result (more ≤ self.new.room) }
