@@ -72,6 +72,10 @@ impl MemSink {
 
     /// Plans that the put of this number, counted from 1, takes its first `after` bytes, at most all of them,
     /// and fails. Several may be planned; of two for one put the first counts.
+    ///
+    /// # Errors
+    ///
+    /// - `Memory`: at any call; nothing changes.
     pub fn fail_at(&mut self, call: u32, after: usize) -> Result<(), Memory>
         ensures ok { OnOk result (self.new ≡ after_fail_put_at call after self.old) }
         ensures err { OnErr result (self.new ≡ self.old) }
