@@ -4,7 +4,7 @@
 # where they were joined, with predicates whose MAX is ten times as great as their scores. Beside them, in the same run, sqlite3
 # joins and sorts all. The plans are given to the program cases_plans, which is told the tables and the query line by line. It
 # and sqlite3 have to print the same rows. How often a plan calls the scorer and how many rows it draws has to be what the
-# definitions say, which checks/executor.py reckons over finished lists. Of the last plans it also reckons what they would do
+# definitions say, which checks/cases/executor.py reckons over finished lists. Of the last plans it also reckons what they would do
 # if MAX bounded a term in the place of the first score of its index.
 # Each query runs five times, in turn, more often where it takes less than 50 ms, and once where it takes more than a second;
 # the shortest time counts. The time of a plan is what the rows that are asked for add to the time of the same line with none.
@@ -38,7 +38,7 @@ import sys
 import time
 
 sys.dont_write_bytecode = True
-sys.path.insert(0, "checks")
+sys.path.insert(0, "checks/cases")
 from executor import Plan, Predicate, Query, Table, Term, join, rank
 
 program, folder = sys.argv[1:]
@@ -67,7 +67,7 @@ def rows_of(size):
 
 
 class Visit(Query):
-    """The query of these tables. What it says of lists, asks and counts is that of checks/executor.py; the rows of a list are
+    """The query of these tables. What it says of lists, asks and counts is that of checks/cases/executor.py; the rows of a list are
     found city by city, since the whole product would be too large."""
 
     def __init__(self, rows, times):

@@ -3,7 +3,7 @@
 
 usage: tools/manual.py >docs/ranksql.1
 
-checks/documents.py compares the page in docs with what this makes."""
+checks/gate/documents.py compares the page in docs with what this makes."""
 
 import os
 import re
@@ -158,7 +158,7 @@ def page():
         "\\fBrun\\fR chooses a plan by a sample, prints each row before it looks for the next one, and calls predicates only as far as the",
         "order of the rows needs. Both print the same rows in the same order.",
         "\\fBta\\fR answers queries over one table by threshold scans of its rank indexes, and says how many accesses each scan made.",
-        "\\fBfeed\\fR joins two files that are ranked already, and draws no row of either that its pairs don't need.",
+        "\\fBfeed\\fR joins two files that are ranked already, and draws exactly the rows that the thresholds of its join ask for.",
         "\\fBcert\\fR prints the rows that it drew with the answer, and \\fBcheck\\fR says whether they prove it.",
         "\\fBview\\fR keeps the first rows of its queries up to date while rows join their tables, and calls predicates for new combinations alone.",
         ".SH WORDS",

@@ -15,8 +15,9 @@ use rs_value::Text;
 use std::alloc::Global;
 use std::marker::Model;
 
-/// The join of two ranked feeds by the texts of their rows. It draws one row at a time, of the feed that can still bring the greater sum,
-/// and gives each pair as soon as no pair that is still to come can precede it.
+/// The join of two ranked feeds by the texts of their rows. It draws one row at a time, of the feed whose threshold comes first: that is
+/// the key of the last row drawn of it with the first row of the other feed. It gives each pair once it comes at or before both
+/// thresholds, so that no pair that is still to come can precede it.
 ///
 /// The rows that it drew stay with it, also after a failure. After a call that answered a fault every later one answers `Broken`, and
 /// draws nothing.

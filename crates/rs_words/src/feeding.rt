@@ -20,7 +20,7 @@ use rs_value::Text;
 use std::alloc::Global;
 
 /// Does what `feed LEFT RIGHT K` says: it joins two files that are ranked feeds by their texts, and puts the first `k` pairs, each
-/// as soon as no pair that is still to come can precede it, and then how many rows it drew of both.
+/// once it comes at or before the thresholds of the join, and then how many rows it drew of both.
 ///
 /// # Errors
 ///
