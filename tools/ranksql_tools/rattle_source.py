@@ -229,10 +229,10 @@ class Reader:
         self.types.append(made)
 
     def member(self, doc):
-        """A member runs to the line that ends with `;`."""
+        """A member runs to the line that ends with `;` and closes its braces."""
         found = MEMBER.match(self.lines[self.place])
         text = [self.lines[self.place].strip()]
-        while not text[-1].endswith(";") and self.place + 1 < len(self.lines):
+        while not is_closed(text) and self.place + 1 < len(self.lines):
             self.place += 1
             text.append(self.lines[self.place].strip())
         self.members.append(Member(found[1], " ".join(text).rstrip(";"), doc, self.owner, self.of_trait, self.block_imports + self.file_imports))
@@ -290,6 +290,10 @@ class Reader:
         """Whether the declaration of a method of a trait ends on this line: nothing deeper follows."""
         following = self.lines[self.place + 1] if self.place + 1 < len(self.lines) else ""
         return not following.strip() or len(following) - len(following.lstrip()) <= indent
+
+
+def is_closed(lines):
+    return lines[-1].endswith(";") and sum(line.count("{") - line.count("}") for line in lines) == 0
 
 
 def read_source(path):
