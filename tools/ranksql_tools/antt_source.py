@@ -3,9 +3,9 @@
 import re
 from dataclasses import dataclass
 
-HEAD = re.compile(r"(?:abbrev |unfoldable )?(pub )?(?:(data|record) )?([^\s:()]+)(?: [^:]*)? :")
-MUTUAL = re.compile(r"(abbrev |unfoldable )?mutual$")
-FIELD = re.compile(r"  pub ([^\s:]+) :")
+HEAD = re.compile(r"(?:abbrev |unfoldable )?(pub )?(?:(data|record) )?([^\s:()]+)(?: [^:=]*)? :")
+# What holds definitions that stand further in.
+BLOCK = re.compile(r"(abbrev |unfoldable )?mutual$|module .* where$")
 IMPORT = re.compile(r"(pub )?use ")
 
 
@@ -34,24 +34,26 @@ class AnttFile:
         self.read(lines)
 
     def read(self, lines):
-        comment, in_mutual = [], False
+        comment, deep = [], 0
         for place, line in enumerate(lines):
-            indent = len(line) - len(line.lstrip())
-            if indent == 0 and line.strip():
-                in_mutual = MUTUAL.match(line) is not None
             stripped = line.strip()
-            if stripped.startswith("--") and indent <= 2:
+            indent = len(line) - len(line.lstrip())
+            if stripped:
+                deep = min(deep, indent)
+            if stripped.startswith("--") and indent == deep:
                 comment.append(stripped[2:].strip())
-                continue
-            found = HEAD.match(stripped) if indent == 0 or (in_mutual and indent == 2) else None
-            if found and not IMPORT.match(line):
-                self.add(found, place, lines, indent, comment)
-            if not MUTUAL.match(line):
+            elif indent == deep and BLOCK.match(stripped):
+                deep += 2
+                comment = comment if "mutual" in stripped else []
+            else:
+                found = HEAD.match(stripped) if indent == deep and not IMPORT.match(line) else None
+                if found:
+                    self.add(found, place, lines, indent, comment)
                 comment = []
 
     def add(self, found, place, lines, indent, comment):
         end = place + 1
-        while end < len(lines) and lines[end].strip() and not (indent == 2 and lines[end].strip().startswith("--")):
+        while end < len(lines) and lines[end].strip() and not lines[end].startswith(" " * indent + "--"):
             end += 1
         text = "\n".join(line[indent:] for line in lines[place:end]).rstrip()
         self.definitions.append(Definition(self.path, place + 1, found[3], bool(found[1]), comment, text))

@@ -15,9 +15,12 @@ use rs_feed::FeedRow;
 use rs_value::Memory;
 use std::alloc::Global;
 
-/// Whether a certificate proves its answer, or the first part of it that fails. Its time grows with the rows and the pairs of the
-/// certificate, and not with the pairs that its rows have: of a left row it looks at no more of them than come before the last pair,
-/// and one.
+/// Whether a certificate proves its answer, or the first part of it that fails: a row of a side whose score rises,
+/// pairs that aren't the first ones or are too many, too few pairs, a left row that could still make an earlier pair,
+/// or a right one.
+///
+/// Its time grows with the rows and the pairs of the certificate, and not with the pairs that its rows have: of a left
+/// row it looks at no more of them than come before the last pair, and one.
 ///
 /// # Errors
 ///

@@ -14,7 +14,8 @@ use csv::{ByteRecord, Reader, ReaderBuilder};
 use rs_value::Memory;
 use std::alloc::Global;
 
-/// The certificate whose records these bytes are, behind one byte order mark, or the first record that no certificate has there.
+/// The certificate whose records these bytes are, behind one byte order mark, or the first record that no certificate
+/// has there. There is no limit of bytes, only fewer records than 2^32, so that each has a number.
 ///
 /// # Errors
 ///

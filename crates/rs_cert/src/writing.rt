@@ -12,7 +12,7 @@ use rs_feed::FeedRow;
 use rs_value::Memory;
 use std::alloc::Global;
 
-/// The bytes of a certificate, which are read back as it.
+/// The bytes of a certificate, its records one behind another as `csv` writes them, which are read back as it.
 ///
 /// # Errors
 ///

@@ -12,7 +12,8 @@ use rs_feed_join::FeedJoin;
 use rs_value::{List, Memory};
 use std::alloc::Global;
 
-/// The certificate of these pairs, by the numbers of their rows, with the rows that a join drew. It copies them.
+/// The certificate of these pairs, by the numbers of their rows, with the rows that a join drew and the sides that
+/// ended. It copies them.
 ///
 /// # Errors
 ///

@@ -5,7 +5,7 @@ use rs_outside::{FetchFault, Files};
 use rs_value::Text;
 use std::alloc::Global;
 
-/// The bytes of the file of this name, which are at most `limit`.
+/// The bytes of the file of this name, which are at most `limit`. It makes one fetch.
 ///
 /// # Errors
 ///

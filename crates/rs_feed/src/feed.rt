@@ -20,7 +20,8 @@ pub trait Feed {
     /// many draws failed; and whether none will. The three counts stand still at 2^64 - 1.
     ghost state: { Self → FeedState };
 
-    /// The next row, or none at the end.
+    /// The next row, or none at the end. Where the feed tells its rows, it is the first one that wasn't given yet. Each
+    /// draw is counted, also one that fails, each row that was given, and each failure.
     ///
     /// # Errors
     ///

@@ -56,10 +56,17 @@ impl FeedJoin {
         }
     }
 
-    /// The next pair, the greatest sum of both scores first, at equal sums the lesser left number, and then the lesser right one; or none
-    /// at the end.
+    /// The next pair, the greatest sum of both scores first, at equal sums the lesser left number, and then the lesser
+    /// right one; or none at the end. Of each feed it takes the longest front in which no score rises, of at most
+    /// 131,072 rows, and it refuses the row behind that front, where it draws it.
     ///
-    /// Both feeds are to be the ones of all calls, and no other is to draw of them.
+    /// Both feeds are to be the ones of all calls, and no other is to draw of them. Behind a call that gave a pair they
+    /// were drawn exactly as often as the pairs up to it take. What is said of feeds that tell their rows asks that
+    /// each score is below 2^32, as those of all rows are.
+    ///
+    /// The pairs that were given are the first of all that the feeds can have, and no pair that is still to come
+    /// precedes the last of them. That stays so once a call failed: such a call made the first of its draws, and a draw
+    /// that failed is the last of these. A side that ended is drawn no more, and behind the end nothing is drawn.
     ///
     /// # Errors
     ///

@@ -18,8 +18,9 @@ pub const MOST_BYTES: usize = 1_048_576;
 // Each place in a script fits the `u32` of a span, that of its end too.
 const _: () = prove!(MOST_BYTES <= u32::MAX as usize);
 
-/// The tokens of a script in their order, each with its place. Blanks and comments stand between tokens and
-/// are left out. Where no token begins, or one too many does, the answer is the first such place.
+/// The tokens of a script in their order, each with its place. Blanks and comments stand between tokens and are left
+/// out. Where no token begins, or one too many does, the answer is the first such place. A script spells one list of
+/// tokens at most: what it spells within the limit is answered, and each refused place with its fault.
 ///
 /// # Errors
 ///

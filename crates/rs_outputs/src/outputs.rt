@@ -55,7 +55,8 @@ impl Outputs {
         self.placed.has(values) || is_among(front, values) || is_among(back, values)
     }
 
-    /// Adds these values, where they are none of the lists. Says whether they were none.
+    /// Adds these values, where they are none of the lists. Says whether they were none. It takes no memory where there
+    /// is room for a further list.
     ///
     /// # Errors
     ///
@@ -81,7 +82,8 @@ impl Outputs {
         }
     }
 
-    /// Adds a copy of these values, where they are none of the lists. Says whether they were none.
+    /// Adds a copy of these values, where they are none of the lists. Says whether they were none. The copy is made
+    /// only where they were none.
     ///
     /// # Errors
     ///

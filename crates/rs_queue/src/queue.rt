@@ -63,7 +63,8 @@ impl<K: Ord, V> Queue<K, V> {
         has_entry(self.heap.as_slice(), key) || run_has(&self.run, key)
     }
 
-    /// Puts a pair in at the place of its key. Where there is no memory for it, the pair comes back.
+    /// Puts a pair in at the place of its key. Where there is no memory for it, the pair comes back. No pair is to have
+    /// an equal key.
     ///
     /// # Errors
     ///
@@ -109,7 +110,7 @@ impl<K: Ord, V> Queue<K, V> {
         }
     }
 
-    /// Takes the first pair out.
+    /// Takes the first pair out, whose key comes before those of all others.
     ///
     /// # Errors
     ///

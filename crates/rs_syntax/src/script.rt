@@ -18,7 +18,10 @@ use rs_lex::Token;
 use rs_value::Text;
 use std::alloc::Global;
 
-/// The statements that the tokens of a script parse to, all of them, in their order.
+/// The statements that the tokens of a script parse to, all of them, in their order, with all places, weights, costs
+/// and groupings. Tokens parse to one list at most: that is answered where nothing is wrong with them, and else the
+/// first thing that is wrong. A table has a column, a predicate a parameter, a block a FROM entry, an INSERT a row and
+/// a row a cell, and numbers among arguments and cells are in range.
 ///
 /// # Errors
 ///

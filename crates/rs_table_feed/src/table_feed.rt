@@ -45,7 +45,8 @@ impl Model for TableFeed {
 }
 
 impl TableFeed {
-    /// The feed of a table whose columns are a TEXT and an INT, of which nothing is drawn. It takes no memory.
+    /// The feed of a table whose columns are a TEXT and an INT, of which nothing is drawn: its rows in their order,
+    /// each with the text by which it is joined and the number as its score. It takes no memory.
     ///
     /// # Errors
     ///

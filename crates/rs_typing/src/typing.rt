@@ -16,7 +16,8 @@ use rs_syntax::{ColRef, Node};
 use rs_value::Text;
 use std::alloc::Global;
 
-/// What an expression is, or the first rule that it breaks: that of a part, from left to right, before its own.
+/// What an expression is, or the first rule that it breaks: that of a part, from left to right, before its own. Each
+/// number in what is answered has a width.
 ///
 /// # Errors
 ///

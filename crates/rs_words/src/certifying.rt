@@ -20,8 +20,10 @@ use rs_table_feed::TableFeed;
 use rs_value::Text;
 use std::alloc::Global;
 
-/// Does what `cert LEFT RIGHT K` says: it joins two files that are ranked feeds as `feed` does, and puts the certificate of the first
-/// `k` pairs and of the rows that were drawn for them. It puts nothing before the join is done.
+/// Does what `cert LEFT RIGHT K` says: it joins two files that are ranked feeds as `feed` does, and puts, in one put,
+/// the certificate of the first `k` pairs, or of all, and of the rows that were drawn for them, with an end where one
+/// draw was behind the last row. It puts nothing before the join is done. `k` is at most 1,000,000, since the
+/// certificate says it and is to be read back.
 ///
 /// # Errors
 ///

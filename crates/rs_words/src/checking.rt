@@ -16,7 +16,8 @@ use rs_outside::{Files, Sink};
 use rs_value::{Memory, Text};
 use std::alloc::Global;
 
-/// Does what `check FILE` says: it reads a certificate, and puts whether it proves its answer, or which part of it fails first.
+/// Does what `check FILE` says: it reads a certificate, and puts whether it proves its answer, or which part of it
+/// fails first. Of bytes that are no certificate it puts nothing.
 ///
 /// # Errors
 ///

@@ -19,8 +19,12 @@ use rs_table_feed::TableFeed;
 use rs_value::Text;
 use std::alloc::Global;
 
-/// Does what `feed LEFT RIGHT K` says: it joins two files that are ranked feeds by their texts, and puts the first `k` pairs, each
-/// once it comes at or before the thresholds of the join, and then how many rows it drew of both.
+/// Does what `feed LEFT RIGHT K` says: it joins two files that are ranked feeds by their texts, and puts the first `k`
+/// pairs, each once it comes at or before the thresholds of the join, and then how many rows it drew of both.
+///
+/// The right file is fetched only where the left one is a feed. The pairs are those of both fronts in which no score
+/// rises, in the stable order of their sums, each in one put. A row that is drawn and out of order ends the run, behind
+/// the pairs in front. It takes any number of pairs; where the words are read, K is at most 1,000,000.
 ///
 /// # Errors
 ///
