@@ -99,15 +99,20 @@ class Pages:
             yield from ("", f"### {file.path.split('/specs/')[1]}")
             for part in file.leading:
                 yield from ("", part)
+            above = None
             for definition in file.definitions:
+                above = definition if definition.comment or above is None else above
                 if definition.is_public:
-                    yield from self.definition(crate, definition)
+                    yield from self.definition(crate, definition, above)
 
-    def definition(self, crate, definition):
+    def definition(self, crate, definition, above):
+        """A definition without a comment stands under the one above it that has one, and the comment speaks of both."""
         self.index.append((definition.name, crate.name, definition.name, "definition"))
         yield from ("", f"#### {definition.name}")
         if definition.comment:
             yield from ("", " ".join(definition.comment))
+        elif above.comment:
+            yield from ("", f"Under `{above.name}`: {' '.join(above.comment)}")
         yield from ("", *code(definition.text))
         place = (definition.path, definition.name)
         for said, found in (("clauses", self.citations.by_calls), ("clauses of private functions", self.citations.by_private),

@@ -125,7 +125,8 @@ class Reference(unittest.TestCase):
         # The clause says `digits`, and the import which definition that is.
         self.assertIn("number_of name = 1\n```\n\nCited by clauses: `number_of` `requires`, `value`.", page)
         # No clause cites it, and a definition does.
-        self.assertIn("odd n = even n\n```\n\nCited by definitions: `Numbers` `even`.", page)
+        self.assertIn("#### odd\n\nUnder `even`: whether it is even\n\n```\npub odd : ℕ → Bool\nodd n = even n\n```\n\n"
+                      "Cited by definitions: `Numbers` `even`.", page)
 
     def test_answers_and_names(self):
         pages = self.pages()
