@@ -11,6 +11,12 @@ pub trait TableReader {
     ghost use Rattle.rs_table.specs.Reading.{table_of};
 
     /// The table of a CSV file, or why it is none, as `Table::read` says it.
+    ///
+    /// # Errors
+    ///
+    /// - `NoHeader`, `TooManyRows`, `HeaderDiffers`, `FieldCount`, `NotInt`, `NotUtf8`: exactly where [`Table::read`]
+    ///   of these bytes and columns has it.
+    /// - `Memory`: at any call.
     fn read_table(
         &mut self,
         alloc: Global,
