@@ -14,9 +14,8 @@ pub trait TableReader {
     ///
     /// # Errors
     ///
-    /// - `NoHeader`, `TooManyRows`, `HeaderDiffers`, `FieldCount`, `NotInt`, `NotUtf8`: exactly where [`Table::read`]
-    ///   of these bytes and columns has it.
-    /// - `Memory`: at any call.
+    /// - Those of `Table::read`: exactly where it gives them of these bytes and columns, but for `Memory`, which may come at
+    ///   any call.
     fn read_table(
         &mut self,
         alloc: Global,

@@ -58,6 +58,7 @@ impl Schema {
     /// - `NotUtf8`: a field of it isn't UTF-8; the row is 0, and the column that of the first such field.
     /// - `NoColumn`: no field of it is the given name.
     /// - `Memory`: at any call.
+    /// - `HeaderDiffers`, `FieldCount`, `NotInt`, `TooManyRows`: never.
     pub fn of_header(alloc: Global, bytes: &[u8], column: &Text) -> Result<Schema, TableFault>
         requires { length bytes.now ≤ 33554432 }
         ensures gives { Gives TableFault.Memory (header_of column.now bytes.now) result }

@@ -60,14 +60,15 @@ impl Table {
     /// place.
     ///
     /// - `NoHeader`: the file has no record.
-    /// - `HeaderDiffers`: the first record isn't the names of the columns in their order; it tells the first place that
-    ///   differs, also where one of the two is longer.
+    /// - `HeaderDiffers`: the first record isn't the names of the columns in their order. It tells the first place at which
+    ///   they differ; a place that only one of them has counts too.
     /// - `TooManyRows`: there is a row 131,073.
     /// - `FieldCount`: a row has more or fewer fields than there are columns.
     /// - `NotInt`: a field of a column of numbers writes no whole number of a magnitude of at most
-    ///   4,000,000,000,000,000,000.
+    ///   4,000,000,000,000,000,000. One that isn't UTF-8 is this too.
     /// - `NotUtf8`: a field of a column of texts isn't UTF-8.
     /// - `Memory`: at any call.
+    /// - `NoColumn`, `TooManyColumns`: never.
     pub fn read(
         alloc: Global,
         hash_keys: RandomState,
