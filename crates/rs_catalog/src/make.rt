@@ -93,6 +93,7 @@ fn score_row<S: Scorer>(
 /// # Errors
 ///
 /// - `BadScore`: exactly where the number lies outside 0 to `max`.
+/// - `Probe`, `Memory`: never.
 pub fn score_for(max: u32, row: u32, got: i128) -> Result<ScoredRow, IndexFault>
     ensures { result ≡ score_for max row got }
 {
