@@ -37,6 +37,7 @@ module _ (answer : Answering) (catalogue : CatalogDef) (block : Block) where
   abbrev pub sampled_scores : List (List ℕ) → List ℕ
   sampled_scores samples = map (λ rows. score_of answer catalogue block rows block.terms) (sampled_combinations catalogue block samples (all_entries block))
 
+  -- the cutoff: the score at that place among those of the sampled combinations, the greatest first, or 0 where there are fewer
   abbrev pub cutoff_of : List ℕ → List (List ℕ) → Option ℕ → ℕ
   cutoff_of sizes samples limit = nth_greatest (cutoff_place block sizes samples limit) (sampled_scores samples)
 
