@@ -93,6 +93,7 @@ counted_step number step = record { events = step.events; outcome = of step.outc
   of (Ok catalogue) = Ok (record { number = suc number; catalogue = catalogue })
   of (Err fault) = Err fault
 
+-- what the next statement does, by its number
 abbrev pub DoesNext : Finds → Answering → ScanState → Command → Step RunFault ScanState → Type 0
 DoesNext finds answer state command step =
     (own : Step RunFault CatalogDef) × DoesByScan finds answer state.number state.catalogue command own × (step ≡ counted_step state.number own)

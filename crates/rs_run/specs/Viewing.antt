@@ -169,6 +169,7 @@ numbered_step number step = record { events = step.events; outcome = of step.out
   of (Ok kept) = Ok (record { number = suc number; kept = kept })
   of (Err fault) = Err fault
 
+-- what the next statement does, by its number
 abbrev pub DoesNextByViews : Finds → Answering → ViewState → Command → Step RunFault ViewState → Type 0
 DoesNextByViews finds answer state command step =
     (own : Step RunFault Kept) × DoesByViews finds answer state.number state.kept command own × (step ≡ numbered_step state.number own)
