@@ -16,8 +16,8 @@ use std::{fs, io};
 /// How many bytes one read asks for at most.
 const CHUNK: usize = 8192;
 
-/// The files of the system, by their paths; a relative one starts from the current folder.
-/// Contracts see how many fetches failed.
+/// The files of the system, by their paths; a relative one starts from the current folder. Contracts see how many
+/// fetches failed. A name is handed to the system as a path, so it may lead out of the current folder.
 #[derive(Drop)]
 pub struct DirFiles<R> {
     rt: R,

@@ -20,7 +20,8 @@ pub trait Files {
     /// none will. A disk tells nothing, and is never steady.
     ghost state: { Self → Outside FilesTold };
 
-    /// Appends the bytes of the file of this name, which are at most `limit`. After a fault `into` is as before.
+    /// Appends the bytes of the file of this name, which are at most `limit`. After a fault `into` is as before. The
+    /// fetch changes no file, and its name joins those that are told.
     ///
     /// # Errors
     ///

@@ -27,6 +27,8 @@ impl Model for MemFile {
 }
 
 /// Files in memory, for tests of what fetches files. It keeps the names that were fetched, and fails where it is told.
+/// A fetch for which there was no memory isn't kept, and has no number among the planned failures. It is steady where
+/// no failure was ever planned.
 #[derive(Debug, Drop)]
 pub struct MemFiles {
     files: Vec<MemFile>,

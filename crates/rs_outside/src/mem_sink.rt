@@ -25,7 +25,9 @@ impl Model for PutFailure {
     ghost view = { λ f. record { call = f.call; after = f.after } };
 }
 
-/// A sink in memory, for tests of what writes. It keeps the pieces that were put, and fails where it is told.
+/// A sink in memory, for tests of what writes. It keeps the pieces that were put, and fails where it is told. A put for
+/// which there was no memory isn't kept, and has no number among the planned failures; one that failed is kept with the
+/// piece that it took, which may be empty. It is steady where no failure was ever planned.
 #[derive(Debug, Drop)]
 pub struct MemSink {
     bytes: Vec<u8>,

@@ -15,7 +15,8 @@ pub trait Sink {
     /// whether none will. A stream of the system tells nothing, and is never steady.
     ghost state: { Self → Outside (List (List ℕ)) };
 
-    /// Takes the bytes. One that fails has taken a prefix of them, and one for which there is no memory nothing.
+    /// Takes the bytes. One that fails has taken a prefix of them, and one for which there is no memory nothing. The
+    /// bytes join the pieces as one.
     ///
     /// # Errors
     ///
