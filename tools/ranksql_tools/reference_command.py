@@ -11,7 +11,7 @@ from .refusal import WRITE, Refusal
 ABOUT = """\
 Writes the reference from the sources: a page a crate in Markdown, with each public call, its doc comment, its conditions and its
 clauses, each definition with its comment and the clauses that cite it, and the laws; the table of the answers of calls that can
-fail, with their causes; and an index of all names. It begins with the page index.md."""
+fail, with their causes; the files of lemmas that several crates cite; and an index of all names. It begins with the page index.md."""
 
 
 def parser():

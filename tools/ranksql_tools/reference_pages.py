@@ -3,8 +3,9 @@
 import os
 import re
 
-from .answers import answers_told, HEADING
+from .answers import HEADING, answers_told
 from .cited import Citations, said_of
+from .house_rules import LEMMAS, text_of
 
 
 def is_law(function):
@@ -33,6 +34,7 @@ class Pages:
         pages = {f"{crate.name}.md": list(self.crate(crate)) for crate in self.house.crates.values()}
         pages["answers.md"] = list(self.answers())
         pages["names.md"] = list(self.names())
+        pages["lemmas.md"] = list(self.lemmas())
         pages["index.md"] = list(self.front())
         return {name: "\n".join(lines) + "\n" for name, lines in pages.items()}
 
@@ -141,9 +143,23 @@ class Pages:
         for name, crate, heading, kind in sorted(self.index, key=lambda row: (row[0].lower(), row)):
             yield f"| [`{name.replace('|', '&#124;')}`]({crate}.md#{anchor(heading)}) | {kind} | {crate} |"
 
+    def lemmas(self):
+        yield from ("# Lemmas", "", "Files of lemmas that proofs of other crates cite.", "", "| file | cited by proofs of |", "|---|---|")
+        crates, citing = list(self.house.crates), {}
+        for name, crate in self.house.crates.items():
+            for path in crate.paths("proofs", ".antt"):
+                for other, file in LEMMAS.findall(text_of(self.house, path)):
+                    # (the laws of a type are made from its declaration, and stand in no file)
+                    if other != name and os.path.exists(os.path.join(self.house.root, "crates", other, "proofs", f"{file}.antt")):
+                        citing.setdefault((crates.index(other), f"crates/{other}/proofs/{file}.antt"), {})[name] = None
+        for (_, path), names in sorted(citing.items()):
+            yield f"| `{path}` | {', '.join(names)} |"
+
     def front(self):
-        yield from ("# Reference", "", "Made from the sources by `tools/reference`. [Answers and their causes](answers.md), and [all names](names.md).", "",
-                    "How to read a clause stands in `docs/THEOREM.md`.")
+        yield from ("# Reference", "", "Made from the sources by `tools/reference`. [Answers and their causes](answers.md), [all names](names.md), and",
+                    "[lemmas that several crates cite](lemmas.md). How to read a clause stands in `docs/THEOREM.md`.", "",
+                    "Each function is proved to return, to meet its contract, and to do nothing undefined. A call whose answer has `Memory`",
+                    "may give it in place of what is promised.")
         for name, what, crates in self.house.layers:
             yield from ("", f"## {name[0].upper() + name[1:]}: {what}", "", "| crate | what it is | what it promises |", "|---|---|---|")
             for crate in crates:

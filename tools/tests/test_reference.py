@@ -43,6 +43,8 @@ FILES = {
         "impl House {\n    /// Opens the first door.\n    ///\n    /// # Errors\n    ///\n    /// - `Rust`: never.\n    /// - Those of `Door::open`: where it is shut.\n"
         "    pub fn enter(&mut self) -> Result<Option<u8>, DoorFault> {\n        Ok(None)\n    }\n\n    fn private(&self) -> Option<u8> {\n        None\n    }\n}\n\n"
         "impl Door for House {\n    fn open(&mut self) -> Result<(), DoorFault> {\n        Ok(())\n    }\n}\n"),
+    "crates/rs_low/proofs/DoorFacts.antt": "-- lemmas\n",
+    "crates/rs_high/proofs/enter/Answers.antt": "use Rattle.rs_low.proofs.DoorFacts.{opens}\nuse Rattle.rs_low.proofs.Made.{more}\n",
     "README.md": "[`number_of` `value`](crates/rs_low/src/door.rt), [`Door::open` `opens`](crates/rs_low/src/door.rt#L3), and `rs_low/src/lib.rt`.\n",
     "docs/THEOREM.md": "[`opened`](../crates/rs_low/specs/Doors.antt), [`House`](../crates/rs_high/src/lib.rt), [a page](../crates/none.md)\n",
 }
@@ -135,6 +137,7 @@ class Reference(unittest.TestCase):
         self.assertIn("| [`doors_open`](rs_low.md#doors_open) | law | rs_low |", pages["names.md"])
         self.assertIn("| [`even`](rs_low.md#even) | definition | rs_low |", pages["names.md"])
         self.assertIn("| [rs_low](rs_low.md) | Doors | A door opens once |", pages["index.md"])
+        self.assertTrue(pages["lemmas.md"].endswith("|---|---|\n| `crates/rs_low/proofs/DoorFacts.antt` | rs_high |\n"), pages["lemmas.md"])
 
     def test_the_command_writes_a_page_a_crate(self):
         with tempfile.TemporaryDirectory() as folder:
@@ -144,7 +147,7 @@ class Reference(unittest.TestCase):
             self.assertLess(time.monotonic() - begun, 20)
             made = os.listdir(os.path.join(folder, "made"))
             crates = House(ROOT).crates
-            self.assertEqual(sorted(made), sorted([f"{crate}.md" for crate in crates] + ["answers.md", "index.md", "names.md"]))
+            self.assertEqual(sorted(made), sorted([f"{crate}.md" for crate in crates] + ["answers.md", "index.md", "lemmas.md", "names.md"]))
             with open(os.path.join(folder, "made", "rs_run.md"), encoding="utf-8") as file:
                 page = file.read()
             self.assertIn("## Laws\n\n### one_run\n", page)
