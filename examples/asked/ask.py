@@ -64,7 +64,7 @@ class Run:
                 return False
             *lines, self.row = (self.row + read).split(b"\n")
             for line in lines:
-                print(f"{self.paid:5d} answers  {line.decode()}", flush=True)
+                print(f"{self.paid} answers  {line.decode()}", flush=True)
 
     def answer(self):
         """Reads what is there of a question, one record of CSV, and answers it where it is whole."""
