@@ -231,7 +231,7 @@ class Document:
             told = self.folder.told("\n".join(lines))
             tell(not re.match(r"script: (lex|parse|NotUtf8)", told), f"{self.name}: the statement `{lines[0][:60]}` ..", told)
         elif self.name in WHOLE and not COMMAND.match(lines[0]):
-            tell(any(contains(source, lines) for source in map(self.source, self.sources)), f"{self.name}: the lines `{lines[0][:60]}` ..", "\n".join(lines))
+            tell(any(contains(source, [line.strip() for line in lines]) for source in map(self.source, self.sources)), f"{self.name}: the lines `{lines[0][:60]}` ..", "\n".join(lines))
 
     def source(self, name):
         """The lines of a source that the document has a link to, without the blanks in front."""
@@ -239,7 +239,7 @@ class Document:
         if not os.path.exists(path):
             return []
         with open(path, encoding="utf-8") as file:
-            return textwrap.dedent(file.read()).splitlines()
+            return [line.strip() for line in file]
 
     def row(self, line):
         """A row of a table whose first cell is a script and whose second one is what is told of it."""
