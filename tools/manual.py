@@ -97,17 +97,19 @@ def statuses():
             made += [".TP", escaped(f"**{status}**")]
         else:
             made += [".br"]
-        line = re.sub(r" ?` and a text of the \w+ table", " TEXT`, with one of the texts below", line)
+        line = re.sub(r" ?` and a text .*", " TEXT`, with one of the texts below", line)
         made.append(escaped((f"{line}: " if line != "(none)" else "") + comes.rstrip(".")) + ".")
     return made
 
 
 def texts():
     """The texts of the fault lines of tables and of scripts."""
-    lines = section("docs/FORMATS.md", "Statuses and fault lines")
+    tables = section("docs/FORMATS.md", "Statuses and fault lines")
+    scripts = section("docs/GRAMMAR.md", "How a wrong script is told")
     return [
-        ".SS Texts of a table's fault", *entries(table(lines, "text")),
-        ".SS Texts of a script's fault", "The number is the place of a byte in the script, counted from 0.", *entries(table(lines, "text of a script")),
+        ".SS Texts of a table's fault", *entries(table(tables, "text")),
+        ".SS Lines of a script's fault", "N is the place of a byte in the script, counted from 0.", *entries(table(scripts, "line")),
+        ".PP", "VARIANT is one of these.", *entries(table(scripts, "variant")),
     ]
 
 

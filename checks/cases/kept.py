@@ -12,20 +12,17 @@ import sys
 
 sys.path.insert(0, os.path.join(os.path.dirname(os.path.abspath(__file__)), "..", "model"))
 
-import runs
+from front import Front
 from queries import Ended, Unread, Words, read_query
-from runs import MOST_KEPT, statements, written
+from runs import MOST_KEPT, statements
 
 
-class Kept(runs.Run):
-    """What the lines `make` made, whose tables have their files in themselves, with one view."""
+class Kept(Front):
+    """What the lines `make` made, with one view."""
 
     def __init__(self):
-        super().__init__({}, {}, {}, None)
+        super().__init__()
         self.names, self.old, self.rows = [], None, []
-
-    def fetch(self, name, most):
-        return written(name)
 
     def view(self, failing, text):
         self.made, self.fails, self.old, self.rows = [], {"call": failing}, None, []

@@ -400,15 +400,22 @@ class Block:
 
     @functools.lru_cache(None)
     def bound(self, rows, terms):
-        return self.bound_by(self.run.answer, rows, terms)
+        return self.bound_by(self.worths(rows, self.run.answer), terms)
 
-    @functools.lru_cache(None)
     def sampled_bound(self, rows, terms):
         """The same of a row of the sample, as the sample is scored."""
-        return self.bound_by(self.run.sampled_answer, rows, terms)
+        return self.bound_by(self.sampled_worths(rows), terms)
 
-    def bound_by(self, answer, rows, terms):
-        return sum(w * (self.worth(rows, t, answer) if t in terms else self.tops[t]) for t, (w, *_) in enumerate(self.terms))
+    @functools.lru_cache(None)
+    def sampled_worths(self, rows):
+        return self.worths(rows, self.run.sampled_answer)
+
+    def worths(self, rows, answer):
+        """Of each term its worth, where a row is there of each entry that it speaks of."""
+        return [self.worth(rows, t, answer) if all(rows[e] for e in term[3]) else None for t, term in enumerate(self.terms)]
+
+    def bound_by(self, worths, terms):
+        return sum(w * (worths[t] if t in terms else self.tops[t]) for t, (w, *_) in enumerate(self.terms))
 
     def key(self, rows, terms):
         return -self.bound(rows, terms), self.number, rows
