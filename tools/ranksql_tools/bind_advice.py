@@ -2,7 +2,7 @@
 
 import difflib
 
-from ranksql_tools.script_parse import Explain, Index, Insert, Predicate, Select, Table
+from ranksql_tools.script_parse import Explain, Index, Insert, Node, Predicate, Select, Table
 
 FUNCTIONS = ("COUNT", "SUM", "AVG", "ABS", "MIN", "MAX", "RANDOM", "RAND", "LENGTH", "LOWER", "UPPER", "ROUND", "COALESCE")
 NUMBER, TEXT, CONDITION = "a number", "a text", "a condition"
@@ -207,7 +207,7 @@ def no_column(names, token, place):
     if column.alias:
         return no_dotted(names, block, column, aliases, token)
     every = [name for columns in aliases.values() for name in columns]
-    return missing_column(token, every, listed(aliases))
+    return missing_column(token, every, listed(aliases), meant_text(names, block, token, place))
 
 
 def no_parameter(statement, token, place):
@@ -219,16 +219,54 @@ def no_parameter(statement, token, place):
         return meant(token.says, close)
     if token.sort == "quoted":
         return f"A text stands between single quotes: '{token.says}'. Between double ones stands a name."
+    compared_with = beside(statement.formula, place)
+    if compared_with is not None and ("TEXT" in [kind for column, kind in statement.columns if column.says == named_in(compared_with)]):
+        return f"A text stands between single quotes: '{token.says}'. Without them it is a name, and a formula has those of its parameters alone, here {listed(parameters)}."
     return (
         f"A formula speaks of its parameters alone, here {listed(parameters)}. Make {token.says} one of them, with its kind, and give the column in"
         " ORDER BY."
     )
 
 
-def missing_column(token, columns, where):
+def beside(node, place):
+    """What is compared with the column at a place, or None where nothing is."""
+    if node is None:
+        return None
+    if node.kind == "compare":
+        for one, other in (node.parts, reversed(node.parts)):
+            if one.kind == "column" and one.start == place:
+                return other
+    return next((found for part in node.parts if isinstance(part, Node) for found in [beside(part, place)] if found is not None), None)
+
+
+def named_in(node):
+    """The name of the column that a part of an expression is, if it is one."""
+    return node.parts[0].name if node.kind == "column" else None
+
+
+def meant_text(names, block, token, place):
+    """That a word is meant for a text: one that is compared with a column of texts, or given where a predicate has a text."""
+    compared_with, shown = beside(block.where, place), f"'{token.says}'"
+    if compared_with is not None and named_in(compared_with) is not None:
+        column = compared_with.parts[0]
+        kinds = [made[1] for table, alias in block.sources if column.alias in ("", alias.says) and table.says in names.tables
+                 for made in names.tables[table.says].columns if made[0].says == column.name]
+        if kinds[:1] == ["TEXT"]:
+            return f"A text stands between single quotes: {shown}."
+    for term in names.select.terms:
+        made = names.predicates.get(term.predicate.says)
+        for argument, parameter in zip(term.args, made.columns if made else []):
+            if argument.start == place and parameter[1] == "TEXT":
+                return f"If it is a text, it stands between single quotes: {shown}."
+    return ""
+
+
+def missing_column(token, columns, where, says=""):
     close = closest(token.says, columns)
     if close:
         return meant(token.says, close)
+    if says and token.sort != "quoted":
+        return f"No column of {where} is called {token.says}. {says}"
     if token.sort == "quoted":
         return f"A text stands between single quotes: '{token.says}'. Between double ones stands a name, and no column has this one."
     return f"No column of {where} is called {token.says}. There are: {listed(columns)}."

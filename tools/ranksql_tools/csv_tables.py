@@ -7,8 +7,9 @@ import tempfile
 from collections import Counter
 from typing import NamedTuple
 
-from .csv_columns import MOST_COLUMNS, Raw, counted, find_mark, make_columns, make_names, plain_name, unused
+from .csv_columns import MOST_COLUMNS, Raw, counted, find_mark, make_columns, make_names, plain_name, shown_cells, unused
 from .csv_source import open_source, read_shape
+from .file_sorts import numbers_in_header, parted_by_blanks
 from .refusal import TABLE, USAGE, WRITE, Refusal
 from .script_text import shown
 from .table_file import name_in_script, text_in_script
@@ -80,8 +81,6 @@ def with_names(source, shape, options):
         headings = ["row"] + headings
         notes.append("Each row has one field more than the header: the first is its name, in the column row")
         shape = shape._replace(filled_behind=False)
-    elif headings and all(heading.replace(".", "").isdigit() for heading in headings):
-        notes.append("All names of the header are numbers: --no-header says that the file has none")
     refuse_long(source, shape, len(headings))
     return Opened(source, shape, headings, make_names(headings, options.keep_names), notes)
 
@@ -210,6 +209,7 @@ def make_table(opened, options, tables, predicates):
     """Makes the table of a file and its script. The names that are given go into `tables` and `predicates`."""
     places = chosen_columns(opened, options.columns)
     cells, notes = read_rows(opened, places, options)
+    notes += notes_on_header(opened, places, cells, options)
     columns, mark = build(opened, places, cells, options)
     if options.drop_empty:
         cells, dropped = without_empty(columns, cells)
@@ -233,6 +233,19 @@ def make_table(opened, options, tables, predicates):
     return Made(table, script, told)
 
 
+def notes_on_header(opened, places, cells, options):
+    """What is told of a header that may be a row, and of one that may have several names."""
+    if options.no_header:
+        return []
+    headings = [opened.headings[place] for place in places]
+    numbers = numbers_in_header(headings, [Counter(column) for column in cells])
+    if numbers:
+        return ["The header has numbers where the rows have: %s; if it is a row, --no-header keeps it" % shown_cells(numbers)]
+    if len(opened.headings) == 1 and not options.delimiter and cells and parted_by_blanks(opened.headings[0], cells[0]):
+        return ["There is one column, and most rows have as many blanks as its name: --delimiter space takes them as what parts the fields"]
+    return []
+
+
 def empty_told(columns):
     """What is told of empty numbers on standard error: of each column, but in short where there are many."""
     empty = [column for column in columns if column.null is not None]
@@ -246,7 +259,7 @@ def table_name(path):
     if path == "-":
         return "data"
     stem = os.path.basename(path)
-    for ending in (".gz", ".csv", ".tsv", ".txt", ".tab", ".table"):
+    for ending in (".gz", ".csv", ".tsv", ".txt", ".tab", ".json", ".jsonl", ".ndjson", ".table"):
         if stem.lower().endswith(ending) and len(stem) > len(ending):
             stem = stem[:-len(ending)]
     return plain_name(stem, 1).replace("column_1", "data")
@@ -261,8 +274,9 @@ def file_notes(opened, rows, columns, mark):
     source, shape = opened.source, opened.shape
     encoding = NAMES_OF_ENCODINGS.get(source.encoding, source.encoding)
     parted = NAMES_OF_DELIMITERS.get(source.delimiter, source.delimiter)
-    notes = ["%s: %s of %s, read as %s with %s between the fields%s" % (
-        source.path, counted(rows, "row"), counted(columns, "column"), encoding, parted, ", decimals behind a comma" if mark == "comma" else "")]
+    read_as = "JSON" if source.is_json else "%s with %s between the fields" % (encoding, parted)
+    notes = ["%s: %s of %s, read as %s%s" % (source.path, counted(rows, "row"), counted(columns, "column"), read_as,
+                                             ", decimals behind a comma" if mark == "comma" else "")]
     if source.quotes.note:
         notes.append("Of quotes: " + source.quotes.note)
     if shape.blank and len(opened.headings) == 1:

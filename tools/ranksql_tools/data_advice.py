@@ -4,11 +4,12 @@ import difflib
 import os
 import re
 
+from ranksql_tools.file_sorts import numbers_in_header, of_odd_file, parted_by_blanks
 from ranksql_tools.program import helper
 from ranksql_tools.scores import calls_of
 from ranksql_tools.script_parse import Table
 from ranksql_tools.script_text import line_number, shown, width
-from ranksql_tools.table_file import is_whole, name_in_script, read_file, records, text_in_script
+from ranksql_tools.table_file import WORD, is_whole, name_in_script, read_file, records, text_in_script
 
 MOST_ROWS_READ = 200_000
 MISSING = ("NA", "N/A", "NAN", "NULL", "NONE", "-", "?", ".", "#N/A", "INF", "-INF")
@@ -59,6 +60,9 @@ def of_table(fault, parser):
     body = read_file(fault.name)
     if body is None:
         return token, [], "The file isn't a plain one that could be read a second time, so the place in it can't be shown."
+    odd = of_odd_file(body, f"{helper('prepare')} {fault.name}")
+    if odd:
+        return token, [], odd
     found = list_of_records(body)
     if fault.variant == "NoHeader":
         return token, [], "The file is empty, or has blank lines alone. Its first line has to name the columns."
@@ -74,7 +78,7 @@ def of_table(fault, parser):
         return token, [], "The file has changed since the program read it. Run the script again."
     record = found[row]
     if fault.variant == "FieldCount":
-        return token, record_lines(fault.name, body, record), of_field_count(fault, body, record, header)
+        return token, record_lines(fault.name, body, record), of_field_count(fault, found, record, header)
     if fault.variant == "OutOfOrder":
         return token, record_lines(fault.name, body, record, 1), of_order(fault)
     column = fault.numbers[1] - 1
@@ -98,7 +102,7 @@ def list_of_records(body):
     return made
 
 
-def of_field_count(fault, body, record, header):
+def of_field_count(fault, found, record, header):
     """What to do where a row has too many or too few fields."""
     row, count = fault.numbers
     wanted = len(header)
@@ -107,7 +111,12 @@ def of_field_count(fault, body, record, header):
         return f"{says} A field that has a comma stands between double quotes: \"a, b\". {helper('prepare')} {fault.name} says which rows it leaves out."
     if any(b"\n" in field for field in record.fields):
         return f"{says} A double quote begins a field and is closed lines further down, or never. Double it, or take it away."
-    return f"{says} Each field that is empty needs its comma. {helper('prepare')} {fault.name} says which rows it leaves out."
+    short = sum(len(other.fields) < wanted for other in found[1:])
+    more = f" {short:,} rows are shorter than the header." if short > 1 else ""
+    return (
+        f"{says}{more} Each field that is empty needs its comma. {helper('prepare')} {fault.name} puts empty cells at the end of such rows, and says"
+        " how many there are and in which lines."
+    )
 
 
 def kinds_of(found, count):
@@ -131,6 +140,15 @@ def of_header(fault, statement, body, found, header):
     for delimiter, name in ((";", "semicolons"), ("\t", "tabs"), ("|", "bars")):
         if len(header) == 1 and delimiter in found[0].fields[0].decode("utf-8", "replace"):
             return lines, f"The fields of the file are parted by {name}, and a table file has commas. {helper('prepare')} {path} writes such a file, and its CREATE TABLE."
+    if len(header) == 1 and parted_by_blanks(header[0], [decoded(record.fields[0]) for record in found[1:] if len(record.fields) == 1]):
+        return lines, (
+            f"The fields of the file are parted by blanks, and a table file has commas. {helper('prepare')} --delimiter space {path} writes such a"
+            " file, and its CREATE TABLE."
+        )
+    wanted = [column[0].says for column in statement.columns] if statement else []
+    row = row_in_front(path, found, header, wanted)
+    if row:
+        return lines, row
     if len(set(header)) < len(header) or "" in header:
         return lines, f"The header has an empty name, or one name twice, which no table can have. {helper('prepare')} {path} writes a file with names that fit."
     kinds = kinds_of(found, len(header))
@@ -138,12 +156,34 @@ def of_header(fault, statement, body, found, header):
     columns = ", ".join(f"{name_in_script(column)} {kind}" for column, kind in zip(header, kinds))
     says = "The header of the file has to name the same columns as the statement, in the same order, letter by letter."
     if statement:
-        wanted = [column[0].says for column in statement.columns]
         place = fault.numbers[0] - 1
         in_file = f"`{header[place]}`" if place < len(header) else "no column"
         in_script = f"`{wanted[place]}`" if place < len(wanted) else "no column"
         says = f"Column {place + 1} is {in_file} in the file and {in_script} in the statement; all columns of the file have to be named, in its order."
-    return lines, f"{says} This fits: CREATE TABLE {name} ({columns}) FROM {text_in_script(path)};"
+    made = f"{says} This fits: CREATE TABLE {name} ({columns}) FROM {text_in_script(path)};"
+    if len(wanted) == len(header) and not {one.lower() for one in wanted} & {one.lower() for one in header}:
+        made += f" But if the first line is a row, the file has no header: {helper('prepare')} --no-header {path} makes a table that keeps this row."
+    return lines, made
+
+
+def row_in_front(path, found, header, wanted):
+    """What to do where the first line of a file seems to be a row, since it has numbers where the rows have; else nothing."""
+    columns = [[decoded(record.fields[place]) for record in found[1:] if place < len(record.fields)] for place in range(len(header))]
+    numbers = numbers_in_header(header, columns)
+    if not numbers:
+        return ""
+    made = (
+        f"The first line has {listed(numbers)}, where the rows below it have numbers too, so it seems to be a row, and the file to have no header."
+        f" {helper('prepare')} --no-header {path} makes a table that keeps this row."
+    )
+    if len(wanted) == len(header) and all(WORD.fullmatch(name) for name in wanted):
+        made += f" Or put a first line into the file: {','.join(wanted)}"
+    return made
+
+
+def listed(names):
+    """The first of some names."""
+    return ", ".join(names[:3]) + (" .." if len(names) > 3 else "")
 
 
 def of_cell(cell, name, row, cells, path):
@@ -255,6 +295,9 @@ def of_feed_score(fault, paths):
 def of_feed_header(fault):
     """A header that isn't that of a feed."""
     body = read_file(fault.name)
+    odd = of_odd_file(body, f"{helper('prepare')} {fault.name}") if body is not None else ""
+    if odd:
+        return [], odd
     found = list_of_records(body) if body is not None else []
     lines = record_lines(fault.name, body, found[0]) if found else []
     return lines, "A feed has exactly the columns `key` and `score`, in this order, and its header names them so."

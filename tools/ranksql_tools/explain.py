@@ -4,6 +4,7 @@ from ranksql_tools import bind_advice, certificate_advice, command_advice, data_
 from ranksql_tools.faults import read_fault
 from ranksql_tools.foreign_advice import foreign_word
 from ranksql_tools.script_parse import parse
+from ranksql_tools.script_place import Place, scorings
 from ranksql_tools.script_text import tokens_of, with_caret, without_mark
 
 
@@ -27,10 +28,10 @@ def of_script(fault, body):
     if fault.step == "parse":
         if stopped is None or tokens[stopped.index].start != fault.place:
             stopped_at = next((index for index, other in enumerate(tokens) if other.start >= fault.place), len(tokens) - 1)
-            place = parse_advice.Place(tokens, stopped_at, ("statement",), (), [], 0)
+            place = Place(tokens, stopped_at, ("statement",), (), [], 0, {})
             return parse_advice.of_parse(place, fault.variant) if fault.variant.startswith("Too") else "Something else is expected here."
         start = parser.starts[-1] if parser.starts else 0
-        place = parse_advice.Place(tokens, stopped.index, stopped.trail, stopped.ended, stopped.expected, start)
+        place = Place(tokens, stopped.index, stopped.trail, stopped.ended, stopped.expected, start, scorings(parser))
         if fault.variant == "NotInProfile":
             return foreign_word(place)
         return parse_advice.of_parse(place, fault.variant)
