@@ -3,6 +3,7 @@
 from ranksql_tools import bind_advice, certificate_advice, command_advice, data_advice, parse_advice
 from ranksql_tools.faults import read_fault
 from ranksql_tools.foreign_advice import foreign_word
+from ranksql_tools.limits import MOST_CURSORS, SCRIPT_WORDS
 from ranksql_tools.script_parse import parse
 from ranksql_tools.script_place import Place, scorings
 from ranksql_tools.script_text import tokens_of, with_caret, without_mark
@@ -86,7 +87,7 @@ def of_data(fault, words, body):
     elif fault.kind == "table":
         token, lines, says = data_advice.of_table(fault, parser)
     else:
-        script = words[1] if words[:1] in (["run"], ["plain"], ["ta"], ["view"]) and len(words) > 1 else None
+        script = words[1] if words and words[0] in SCRIPT_WORDS and len(words) > 1 else None
         token, says = data_advice.of_read(fault, parser, script)
     shown = with_caret(body, token.start) if body is not None and token is not None else []
     return [*shown, *lines, says]
@@ -114,7 +115,7 @@ def session_lines(fault, body):
         if word is None:
             continue
         name = statement.name.says
-        faulty = {"NameTaken": word == "DECLARE" and name in opened, "Full": word == "DECLARE" and len(opened) == 64,
+        faulty = {"NameTaken": word == "DECLARE" and name in opened, "Full": word == "DECLARE" and len(opened) == MOST_CURSORS,
                   "Unknown": word != "DECLARE" and name not in opened}[fault.variant]
         if faulty and name == fault.name:
             return with_caret(body, statement.name.start)
