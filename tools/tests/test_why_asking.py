@@ -53,7 +53,7 @@ LINES = [
     ("score: dear rows 1: 77 is not in 0..5\n" + COUNTS, "", ["The score 77 of dear", "above MAX 5"]),
     ("score: dear,1: 77 is not in 0..5\n" + COUNTS, "", ["The score 77 of dear", "above MAX 5"]),
     ("score: cheap rows 1: 12 is not in 0..10\n" + COUNTS, "", ["The score of cheap"]),
-    ("script: bind NoTable at %d\n" % SCRIPT.index(b"t ORDER") + COUNTS, "", ["   4 | SELECT n FROM t", "     |               ^", "There is no table t."]),
+    ("session: Unknown c\n" + COUNTS, "", ["No cursor c is open here"]),
     ("differs\n", "", ["No case of this is known"]),
     ("memory\n" + COUNTS, "", ["not enough memory"]),
 ]
