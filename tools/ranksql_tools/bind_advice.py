@@ -2,6 +2,10 @@
 
 import difflib
 
+from ranksql_tools.limits import (
+    GREATEST_COST, GREATEST_LIMIT, GREATEST_SCORE, GREATEST_WEIGHT, MOST_COLUMNS, MOST_CONDITIONS, MOST_INDEXES, MOST_OUTPUTS, MOST_PARAMETERS,
+    MOST_PREDICATES, MOST_ROWS, MOST_SOURCES, MOST_TABLES, MOST_TERMS
+)
 from ranksql_tools.script_parse import Explain, Index, Insert, Node, Predicate, Select, Table
 
 FUNCTIONS = ("COUNT", "SUM", "AVG", "ABS", "MIN", "MAX", "RANDOM", "RAND", "LENGTH", "LOWER", "UPPER", "ROUND", "COALESCE")
@@ -71,7 +75,7 @@ def of_catalogue(variant, token):
             f"There already is something of the name {token.says}. Tables, predicates and rank indexes share their names, so choose another one;"
             " a script makes each thing once."
         )
-    return "A run has at most 16 tables, 64 predicates and 64 rank indexes. Leave out what no query uses, or split the script."
+    return f"A run has at most {MOST_TABLES} tables, {MOST_PREDICATES} predicates and {MOST_INDEXES} rank indexes. Leave out what no query uses, or split the script."
 
 
 def limit(names, token, place):
@@ -80,38 +84,38 @@ def limit(names, token, place):
         if statement.most.start == place:
             if token.text.strip("0") == "":
                 return "MAX is from 1 on: the greatest score that the predicate can give. A MAX of 0 would give each row the same score."
-            return "MAX is at most 4,294,967,295. Let the formula divide, so that the scores are smaller: AS population / 1000."
+            return f"MAX is at most {GREATEST_SCORE:,}. Let the formula divide, so that the scores are smaller: AS population / 1000."
         if statement.cost and statement.cost.start == place:
-            return "COST is from 0 to 65,535. It is what a call costs where reading a row of a table costs 1."
-        return "A predicate has 8 parameters at most. Compute a part of the formula in the file, as a column of its own."
+            return f"COST is from 0 to {GREATEST_COST:,}. It is what a call costs where reading a row of a table costs 1."
+        return f"A predicate has {MOST_PARAMETERS} parameters at most. Compute a part of the formula in the file, as a column of its own."
     if isinstance(statement, Insert):
-        return "A table has 131,072 rows at most: those of its file, and those that were put in. This row and those behind it are too many."
+        return f"A table has {MOST_ROWS:,} rows at most: those of its file, and those that were put in. This row and those behind it are too many."
     if isinstance(statement, Table):
-        return "A table has 64 columns at most. Keep those that the queries need; the helper `prepare` writes a file of the columns that you name."
+        return f"A table has {MOST_COLUMNS} columns at most. Keep those that the queries need; the helper `prepare` writes a file of the columns that you name."
     if isinstance(select, Select):
         return limit_of_query(select, token, place)
     if token.sort == "number":
-        return "FETCH has a number of rows from 0 to 1,000,000."
+        return f"FETCH has a number of rows from 0 to {GREATEST_LIMIT:,}."
     return None
 
 
 def limit_of_query(select, token, place):
     if select.limit and select.limit.start == place:
-        return "LIMIT is from 0 to 1,000,000. Without LIMIT all rows are printed."
+        return f"LIMIT is from 0 to {GREATEST_LIMIT:,}. Without LIMIT all rows are printed."
     for count, term in enumerate(select.terms):
         if term.weight and term.weight.start == place:
             if term.weight.text.strip("0") == "":
                 return "A weight is from 1 on. A term of the weight 0 changes no score, so leave the whole term out."
-            if count < 8:
-                return "A weight is at most 1,000,000. Divide all weights by one number, or let a predicate's formula give smaller scores."
+            if count < MOST_TERMS:
+                return f"A weight is at most {GREATEST_WEIGHT:,}. Divide all weights by one number, or let a predicate's formula give smaller scores."
         if term.start == place:
-            return "ORDER BY has 8 terms at most. Put two predicates over one table into one formula."
+            return f"ORDER BY has {MOST_TERMS} terms at most. Put two predicates over one table into one formula."
     for block in select.blocks:
-        if any(source[0].start == place or source[1].start == place for source in block.sources[6:]):
-            return "FROM has 6 tables at most. Join some of them in a file beforehand."
+        if any(source[0].start == place or source[1].start == place for source in block.sources[MOST_SOURCES:]):
+            return f"FROM has {MOST_SOURCES} tables at most. Join some of them in a file beforehand."
         if block.where and block.where.start <= place:
-            return "WHERE has 32 parts at most that AND joins. Put several into one by brackets and NOT .. OR, or filter the file."
-    return "A query has 384 output columns at most. Name those that you need."
+            return f"WHERE has {MOST_CONDITIONS} parts at most that AND joins. Put several into one by brackets and NOT .. OR, or filter the file."
+    return f"A query has {MOST_OUTPUTS} output columns at most. Name those that you need."
 
 
 def name_twice(names, token, place):

@@ -1,5 +1,6 @@
 """What to do about CREATE and INSERT where they don't parse."""
 
+from ranksql_tools.limits import GREATEST_NUMBER
 from ranksql_tools.query_advice import arguments
 from ranksql_tools.script_place import closest
 
@@ -63,7 +64,7 @@ def kinds(place):
     if word in ("VARCHAR", "CHAR", "STRING", "NVARCHAR", "CLOB", "CHARACTER", "UUID", "JSON", "STR"):
         return f"A column of texts is TEXT: write TEXT in the place of {word}, without a length."
     if word in ("BIGINT", "SMALLINT", "TINYINT", "INT8", "INT4", "INT64", "LONG", "SERIAL", "NUMBER", "UNSIGNED"):
-        return f"A column of whole numbers is INT: write INT in the place of {word}. It holds up to 4,000,000,000,000,000,000."
+        return f"A column of whole numbers is INT: write INT in the place of {word}. It holds up to {GREATEST_NUMBER:,}."
     if word in ("REAL", "FLOAT", "DOUBLE", "DECIMAL", "NUMERIC", "MONEY", "FLOAT8"):
         return (
             f"There are whole numbers alone, so there is no {word}. Write INT, and let the file count in a smaller unit: cents for euros."

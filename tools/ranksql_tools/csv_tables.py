@@ -7,16 +7,14 @@ import tempfile
 from collections import Counter
 from typing import NamedTuple
 
-from .csv_columns import MOST_COLUMNS, Raw, counted, find_mark, make_columns, make_names, plain_name, shown_cells, unused
+from .csv_columns import Raw, counted, find_mark, make_columns, make_names, plain_name, shown_cells, unused
 from .csv_source import open_source, read_shape
 from .file_sorts import numbers_in_header, parted_by_blanks
+from .limits import GREATEST_SCORE, MOST_COLUMNS, MOST_ROWS, MOST_TABLE_BYTES
 from .refusal import TABLE, USAGE, WRITE, Refusal
 from .script_text import shown
 from .table_file import name_in_script, text_in_script
 
-MOST_ROWS = 131_072
-MOST_BYTES = 32 * 1024 * 1024
-GREATEST_MAX = 4_294_967_295
 SHOWN_LINES = 3
 EXTRA_COLUMNS = ("_day", "_second")
 NAMES_OF_DELIMITERS = {",": "commas", "\t": "tabs", ";": "semicolons", "|": "bars", " ": "spaces"}
@@ -102,8 +100,8 @@ def chosen_columns(opened, wanted):
     none is."""
     if wanted is None:
         if len(opened.headings) > MOST_COLUMNS:
-            raise Refusal(TABLE, "%s has %d columns, and a table has 64 at most: --columns A,B,.. keeps those that you name, of %s"
-                          % (opened.source.path, len(opened.headings), ", ".join(map(shown, opened.names))))
+            raise Refusal(TABLE, "%s has %d columns, and a table has %d at most: --columns A,B,.. keeps those that you name, of %s"
+                          % (opened.source.path, len(opened.headings), MOST_COLUMNS, ", ".join(map(shown, opened.names))))
         return list(range(len(opened.headings)))
     places = []
     for name in next(csv.reader([wanted])):
@@ -117,7 +115,7 @@ def chosen_columns(opened, wanted):
         else:
             raise Refusal(USAGE, "%s has no column %s; it has %s" % (opened.source.path, shown(name), ", ".join(map(shown, opened.names))))
     if len(places) > MOST_COLUMNS:
-        raise Refusal(USAGE, "--columns names %d columns, and a table has 64 at most" % len(places))
+        raise Refusal(USAGE, "--columns names %d columns, and a table has %d at most" % (len(places), MOST_COLUMNS))
     if len(set(places)) < len(places):
         raise Refusal(USAGE, "--columns names a column twice")
     return places
@@ -199,7 +197,7 @@ def text_of(columns):
         csv.writer(room, lineterminator="\n").writerow([column.written(row) for column in columns])
         line = room.getvalue()
         size += len(line.encode())
-        if size > MOST_BYTES:
+        if size > MOST_TABLE_BYTES:
             return made.getvalue(), row
         made.write(line)
     return made.getvalue(), rows
@@ -218,8 +216,8 @@ def make_table(opened, options, tables, predicates):
             columns, mark = build(opened, places, cells, options)
     text, rows = text_of(columns)
     if rows < len(cells[0]):
-        notes.append("%s left out: a table has 32 MiB at most, and these are the first"
-                     % counted(len(cells[0]) - rows, "row is", "rows are"))
+        notes.append("%s left out: a table has %d MiB at most, and these are the first"
+                     % (counted(len(cells[0]) - rows, "row is", "rows are"), MOST_TABLE_BYTES // 2**20))
         columns, mark = build(opened, places, [column[:rows] for column in cells], options)
         text, rows = text_of(columns)
     table = unused(options.table or table_name(opened.source.path), tables)
@@ -316,7 +314,7 @@ def proposals(table, columns, predicates):
 def scores_of(column):
     """The MAX and the formula of the scores that grow with a column."""
     name, span, divisor = name_in_script(column.name), column.greatest - column.least, 1
-    while span // divisor > GREATEST_MAX:
+    while span // divisor > GREATEST_SCORE:
         divisor *= 10
     formula = name
     if column.least:

@@ -5,6 +5,7 @@ import os
 import re
 
 from ranksql_tools.file_sorts import numbers_in_header, of_odd_file, parted_by_blanks
+from ranksql_tools.limits import GREATEST_NUMBER, GREATEST_SCORE, MOST_COLUMNS, MOST_ROWS, MOST_SCRIPT_BYTES, MOST_TABLE_BYTES
 from ranksql_tools.program import helper
 from ranksql_tools.scores import calls_of
 from ranksql_tools.script_parse import Table
@@ -71,7 +72,7 @@ def of_table(fault, parser):
         return token, *of_header(fault, statement, body, found, header)
     if fault.variant == "TooManyRows":
         return token, [], (
-            f"A table has at most 131,072 rows. Keep a part of the file: head -n 131073 {fault.name} >part.csv keeps the first ones."
+            f"A table has at most {MOST_ROWS:,} rows. Keep a part of the file: head -n {MOST_ROWS + 1} {fault.name} >part.csv keeps the first ones."
         )
     row = fault.numbers[0]
     if row >= len(found):
@@ -114,8 +115,8 @@ def of_field_count(fault, found, record, header):
     short = sum(len(other.fields) < wanted for other in found[1:])
     more = f" {short:,} rows are shorter than the header." if short > 1 else ""
     return (
-        f"{says}{more} Each field that is empty needs its comma. {helper('prepare')} {fault.name} puts empty cells at the end of such rows, and says"
-        " how many there are and in which lines."
+        f"{says}{more} Each field that is empty needs its comma. {helper('prepare')} {fault.name} puts empty cells at the end of such rows, and"
+        " counts them."
     )
 
 
@@ -135,8 +136,8 @@ def of_header(fault, statement, body, found, header):
     lines = record_lines(path, body, found[0])
     if fault.variant == "NoColumn":
         return lines, f"The header has no such column. It has: {', '.join(header[:20])}{', ..' if len(header) > 20 else ''}."
-    if len(header) > 64:
-        return lines, f"The file has {len(header)} columns, and a table has 64 at most. {helper('prepare')} {path} writes a file with those that you name."
+    if len(header) > MOST_COLUMNS:
+        return lines, f"The file has {len(header)} columns, and a table has {MOST_COLUMNS} at most. {helper('prepare')} {path} writes a file with those that you name."
     for delimiter, name in ((";", "semicolons"), ("\t", "tabs"), ("|", "bars")):
         if len(header) == 1 and delimiter in found[0].fields[0].decode("utf-8", "replace"):
             return lines, f"The fields of the file are parted by {name}, and a table file has commas. {helper('prepare')} {path} writes such a file, and its CREATE TABLE."
@@ -177,7 +178,7 @@ def row_in_front(path, found, header, wanted):
         f" {helper('prepare')} --no-header {path} makes a table that keeps this row."
     )
     if len(wanted) == len(header) and all(WORD.fullmatch(name) for name in wanted):
-        made += f" Or put a first line into the file: {','.join(wanted)}"
+        made += f" Or put the line `{','.join(wanted)}` in front of it."
     return made
 
 
@@ -206,7 +207,7 @@ def of_cell(cell, name, row, cells, path):
     if re.fullmatch(r"[+-]?[\d.]+[eE][+-]?\d+", text):
         return f"{front}`{text}`, with an exponent.{more} {prepare} writes all digits, where it can."
     if re.fullmatch(r"[+-]?\d+", text):
-        return f"{front}{text}, beyond 4,000,000,000,000,000,000.{more} Make the column TEXT, or measure in a greater unit."
+        return f"{front}{text}, beyond {GREATEST_NUMBER:,}.{more} Make the column TEXT, or measure in a greater unit."
     if re.fullmatch(r"\d{4}-\d\d-\d\d.*|\d{1,2}[./]\d{1,2}[./]\d{2,4}", text):
         return f"{front}the date {text}.{more} Make the column TEXT, or let {prepare} make a number of each date."
     if re.search(r"\d", text) and re.fullmatch(r"\W*[\d.,]+\s*\W*|\W*[\d.,]+\s*(EUR|USD|GBP|km|kg|m)", text):
@@ -248,13 +249,13 @@ def bounded(name, score, most, call):
             scores = [score]
         least, greatest = min(scores), max(scores)
         over = f"Over all rows of {call.names[0]} the scores are {least:,} to {greatest:,}."
-        if least >= 0 and greatest <= 4_294_967_295:
+        if least >= 0 and greatest <= GREATEST_SCORE:
             return f"{over} Write MAX {greatest}, or bound the formula: AS MIN({most}, ..)."
         if least < 0:
             return f"{over} A score is 0 at least: bound the formula by MAX(0, ..), or choose it so that the least is 0." + (
                 f" Above, MAX {greatest} would do." if greatest > most else ""
             )
-        return f"{over} Let the formula divide, so that no score is above 4,294,967,295."
+        return f"{over} Let the formula divide, so that no score is above {GREATEST_SCORE:,}."
     if score < 0:
         return "A score is 0 at least: bound the formula by MAX(0, ..)."
     return f"Write a greater MAX in CREATE PREDICATE {name}, or bound the formula: AS MIN({most}, ..)."
@@ -336,8 +337,8 @@ def of_read(fault, parser, script):
     what = "table" if statement else "script" if script == fault.name else "file"
     if fault.variant == "too long":
         if what == "script":
-            return token, "A script has 1,048,576 bytes at most. Split it."
-        return token, f"A table's file has 33,554,432 bytes at most. {helper('prepare')} {fault.name} writes one with the columns that you name."
+            return token, f"A script has {MOST_SCRIPT_BYTES:,} bytes at most. Split it."
+        return token, f"A table's file has {MOST_TABLE_BYTES:,} bytes at most. {helper('prepare')} {fault.name} writes one with the columns that you name."
     if fault.variant == "failed":
         if os.path.isdir(fault.name or "."):
             return token, "This is a folder. Name a file in it."

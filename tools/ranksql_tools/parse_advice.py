@@ -4,6 +4,7 @@ import re
 
 from ranksql_tools.creation_advice import creations, inserts
 from ranksql_tools.foreign_advice import foreign_word, quoted_name
+from ranksql_tools.limits import GREATEST_NUMBER, GREATEST_WEIGHT, MOST_DEPTH, MOST_STATEMENTS, MOST_TOKENS
 from ranksql_tools.query_advice import CHANCE, orders, queries
 from ranksql_tools.script_parse import COMPARISONS, FOREIGN, RESERVED
 from ranksql_tools.script_place import STATEMENTS, behind_statement, closest, spelt
@@ -68,9 +69,9 @@ def of_tokens(body, variant, place):
     """What to do about a fault of the tokens."""
     rest = body[place:].decode("utf-8", "replace")
     if variant == "NumberTooWide":
-        return "This number is greater than 4,000,000,000,000,000,000, the greatest that there is. Measure in a greater unit."
+        return f"This number is greater than {GREATEST_NUMBER:,}, the greatest that there is. Measure in a greater unit."
     if variant == "TooManyTokens":
-        return "A script has 100,000 tokens at most. Split it into several scripts."
+        return f"A script has {MOST_TOKENS:,} tokens at most. Split it into several scripts."
     if variant == "OpenText":
         if rest.startswith('"'):
             return 'The name that begins with this `"` is never closed. A text stands between single quotes.'
@@ -125,7 +126,7 @@ def of_per_cent(body, place):
     if LIMIT_IN_FRONT.search(body[:place]):
         return f"LIMIT has a number of rows, and no share of them. Write the number, as in LIMIT {digits}."
     return (
-        f"A number has no unit, so no `%` stands behind it. Write {digits} alone where the column holds per cents. Weights are whole numbers, of"
+        f"A number has no unit, so no `%` stands behind it. Write {digits} alone where the column counts in per cent. Weights are whole numbers, of"
         " which the ratio counts: for 50 % and 100 % write 1 and 2."
     )
 
@@ -134,13 +135,13 @@ def of_parse(place, variant):
     """What to do where the parse stops."""
     if variant == "TooDeep":
         if place.within("insert"):
-            return "An INSERT has 256 open brackets and `-` at most, so 256 rows at most. Write several, each with some of the rows."
+            return f"An INSERT has {MOST_DEPTH} open brackets and `-` at most, so {MOST_DEPTH} rows at most. Write several, each with some of the rows."
         return (
-            "The statement has more than 256 operators and open brackets. Compute a part of it in the file of the table, as a column"
+            f"The statement has more than {MOST_DEPTH} operators and open brackets. Compute a part of it in the file of the table, as a column"
             " of its own."
         )
     if variant == "TooManyStatements":
-        return "A script has 1,000 statements at most. Split it into several scripts."
+        return f"A script has {MOST_STATEMENTS:,} statements at most. Split it into several scripts."
     for rule in (signs, numbers, statements, creations, inserts, queries, orders, expressions, names, misspelt):
         says = rule(place)
         if says:
@@ -171,7 +172,7 @@ def numbers(place):
     if token.is_symbol(".") and before.sort == "number" and (behind.sort == "number" or before.end == token.start):
         if place.within("weight"):
             return (
-                "A weight is a whole number from 1 to 1,000,000. Multiply all weights by one number: 0.5 and 1 become 1 and 2, and"
+                f"A weight is a whole number from 1 to {GREATEST_WEIGHT:,}. Multiply all weights by one number: 0.5 and 1 become 1 and 2, and"
                 " the order stays."
             )
         return (

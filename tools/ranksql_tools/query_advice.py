@@ -1,6 +1,7 @@
 """What to do about a query that doesn't parse."""
 
 from ranksql_tools.foreign_advice import join, quoted_name
+from ranksql_tools.limits import GREATEST_LIMIT
 from ranksql_tools.script_parse import COMPARISONS, FOREIGN, RESERVED
 from ranksql_tools.script_place import STATEMENTS, behind_statement, closest, spelt
 
@@ -106,8 +107,9 @@ def distinct_on(place):
         if not token.is_symbol("("):
             inside.append(token)
     same = spelt(inside) if inside else "value"
+    limit = ", and LIMIT too" if any(token.is_word("LIMIT") for token in place.after()) else ""
     return (
-        "There is no DISTINCT ON: DISTINCT keeps the best row of each list of output values. Leave DISTINCT ON and its brackets out, and LIMIT too."
+        f"There is no DISTINCT ON: DISTINCT keeps the best row of each list of output values. Leave DISTINCT ON and its brackets out{limit}."
         f" Rows come with the greatest score first, so of the rows with the same {same} the first one is the best."
     )
 
@@ -140,7 +142,7 @@ def orders(place):
     if place.within("limit"):
         if word == "ALL":
             return "Without LIMIT all rows are printed. Leave LIMIT ALL out."
-        return "LIMIT has a whole number from 0 to 1,000,000, which is written and not computed."
+        return f"LIMIT has a whole number from 0 to {GREATEST_LIMIT:,}, which is written and not computed."
     if place.inside("order"):
         return "Write ORDER BY."
     if "ORDER" in place.expected:
