@@ -8,7 +8,9 @@ export LC_ALL=C
 root=$(cd "$(dirname "$0")/../.." && pwd -P)
 built=$root/crates/ranksql/out/ranksql
 program=${RANKSQL:-$built}
-usage='usage: ranksql top FILE COLUMN MAX K, run SCRIPT SEED, plain SCRIPT, gen NUMBER ROWS, ta SCRIPT, feed LEFT RIGHT K, cert LEFT RIGHT K, check FILE, view SCRIPT'
+# The usage line is that of docs/FORMATS.md.
+# shellcheck disable=SC2016
+usage=$(grep -o '`usage: ranksql top [^`]*`' "$root/docs/FORMATS.md" | head -n 1 | tr -d '`')
 if [ ! -x "$program" ]; then
     echo "there is no program $program: ./ranksql builds it" >&2
     exit 1

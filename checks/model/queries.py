@@ -272,7 +272,7 @@ class Block:
         self.run, self.number = run, number
         words.want("SELECT")
         self.distinct = words.skip("DISTINCT")
-        items = listed(words, column)
+        items = None if words.skip("*") else listed(words, column)
         words.want("FROM")
         self.names = listed(words, entry)
         self.parts = conjuncts(either(words)) if words.skip("WHERE") else []
@@ -281,7 +281,8 @@ class Block:
         # What joins later changes nothing: rows make a new table, and the indexes are those of now.
         self.tables = [run.tables[table] for table, _ in self.names]
         self.indexes = list(run.indexes)
-        self.items = [self.found(*item[1:]) for item in items]
+        everything = [(e, c) for e, table in enumerate(self.tables) for c in range(len(table.columns))]
+        self.items = everything if items is None else [self.found(*item[1:]) for item in items]
         self.conjuncts = [(part, frozenset(self.found(*c)[0] for c in columns_in(part))) for part in self.parts]
         self.all = frozenset(range(len(self.tables)))
 
@@ -659,9 +660,21 @@ class Plan:
         """The calls of this ask alone."""
         return self.calls(ask)[len(self.calls(ask - 1)) :]
 
+    def gave(self, asks):
+        """How many rows it has given once it was asked so often."""
+        return min(asks, len(self.rows))
+
+    def drawn(self, asks):
+        """How far it has read its table or index by then."""
+        return 0
+
+    def called(self, asks):
+        """How often it has called its own predicate by then."""
+        return 0
+
     def told(self, asks):
-        """What the node has done once it was asked so often."""
-        return f" asked={asks} gave={min(asks, len(self.rows))}"
+        """What the node has done by then."""
+        return f" asked={asks} gave={self.gave(asks)}"
 
     def lines(self, level=0, asks=None):
         """The lines of the node and of all below it, with what they have done where the node was asked so often."""
@@ -691,10 +704,12 @@ class Scan(Plan):
         """The rows of the table in the order in which they are drawn."""
         return list(range(1, len(self.query.tables[self.entry].rows) + 1))
 
-    def told(self, asks):
+    def drawn(self, asks):
         source = self.source()
-        drawn = len(source) if asks > len(self.rows) else source.index(self.rows[asks - 1][self.entry]) + 1 if asks else 0
-        return super().told(asks) + f" drawn={drawn}"
+        return len(source) if asks > len(self.rows) else source.index(self.rows[asks - 1][self.entry]) + 1 if asks else 0
+
+    def told(self, asks):
+        return super().told(asks) + f" drawn={self.drawn(asks)}"
 
 
 class IndexScan(Scan):
@@ -727,8 +742,11 @@ class Rank(Plan):
     def own_call(self, ask):
         return [self.query.told_call(row, self.term) for row in self.child.rows[ask - 1 : ask]]
 
+    def called(self, asks):
+        return self.child.gave(self.asked_below(asks)[0])
+
     def told(self, asks):
-        return super().told(asks) + f" calls={min(self.asked_below(asks)[0], len(self.child.rows))}"
+        return super().told(asks) + f" calls={self.called(asks)}"
 
 
 class Distinct(Plan):
