@@ -313,7 +313,7 @@ while IFS= read -r script; do
     # `plain` and `run`.
     words=(plain run)
     case $script in
-        */plans.sql | */analyzed.sql | */savings.sql | */tops.sql) words=(run) ;;
+        */plans.sql | */analyzed.sql | */savings.sql | */tops.sql | examples/calls.sql) words=(run) ;;
         */threshold.sql) words=(ta) ;;
         */board.sql) words=(view) ;;
         *) ! grep -q '^EXPLAIN' "$root/$script" || words=(plain) ;;

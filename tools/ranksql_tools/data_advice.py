@@ -178,7 +178,7 @@ def row_in_front(path, found, header, wanted):
         f" {helper('prepare')} --no-header {path} makes a table that keeps this row."
     )
     if len(wanted) == len(header) and all(WORD.fullmatch(name) for name in wanted):
-        made += f" Or put a first line into the file: {','.join(wanted)}"
+        made += f" Or put the line `{','.join(wanted)}` in front of it."
     return made
 
 

@@ -1,7 +1,7 @@
 """Explains a fault line: the line of the script with a caret, the rows of a file, and a sentence that says what to do."""
 
-from ranksql_tools import bind_advice, certificate_advice, command_advice, data_advice, parse_advice
-from ranksql_tools.faults import read_fault
+from ranksql_tools import asking_advice, bind_advice, certificate_advice, command_advice, data_advice, parse_advice
+from ranksql_tools.faults import lines_of, read_asking_fault, read_fault
 from ranksql_tools.foreign_advice import foreign_word
 from ranksql_tools.limits import MOST_CURSORS, SCRIPT_WORDS
 from ranksql_tools.script_parse import parse
@@ -45,8 +45,11 @@ def explanation(line, words, body):
     """The lines that explain a fault line, where the program was called with these words and the script has these bytes, or
     None where there is no script. An unknown line has no explanation."""
     fault = read_fault(line)
-    if fault is None:
-        return []
+    return explained_fault(fault, words, body) if fault else []
+
+
+def explained_fault(fault, words, body):
+    """The lines that explain a fault."""
     if fault.kind == "usage":
         return [command_advice.of_usage(words)]
     if fault.kind == "write":
@@ -66,6 +69,34 @@ def explanation(line, words, body):
         says = of_script(fault, body)
         return [*with_caret(body, fault.place), *([says] if says else [])]
     return of_data(fault, words, body)
+
+
+def asking_explanation(said, words, body):
+    """The lines that explain what ranksql_ask says on standard error, where it was called with these words and the script has
+    these bytes."""
+    fault = next((fault for line in lines_of(said) for fault in [read_asking_fault(line)] if fault), None)
+    if fault is None:
+        return []
+    if fault.kind == "usage":
+        return [asking_advice.of_usage(words)]
+    if fault.kind == "scores":
+        lines, says = asking_advice.of_scores(fault, words)
+        return [*lines, says]
+    if fault.kind == "ask":
+        return [asking_advice.of_ask(fault, parse(tokens_of(without_mark(body)))[0] if body is not None else None)]
+    if fault.kind == "probe":
+        return [asking_advice.of_probe(fault)]
+    if fault.kind == "write":
+        return [asking_advice.of_write()]
+    if fault.kind == "differs":
+        return [asking_advice.of_differs()]
+    name = fault.name.split(",")[0]
+    if fault.kind == "score" and name in words[0].split(","):
+        return [asking_advice.of_score(name, *fault.numbers[:2])]
+    ends = asking_advice.of_read(fault, words) if fault.kind == "read" else ""
+    if ends:
+        return [ends]
+    return explained_fault(fault, words[4:], body)
 
 
 def of_data(fault, words, body):
