@@ -12,7 +12,8 @@ ghost use Rattle.rs_cert.specs.Records.{AreRecordsOf, IsRead};
 ghost use Rattle.rs_cert.specs.Sound.{Continues};
 ghost use Rattle.rs_value.specs.Answer.{Gives};
 
-/// Whatever two feeds begin with the rows of a good certificate, their first pairs, as many as are wanted, are its pairs.
+/// Where no score of two feeds rises, and they begin with the rows of a good certificate and end where it says that a side has ended,
+/// their first pairs, as many as are wanted, are its pairs.
 pub fn good_certificates_are_sound()
     ensures { (cert : Cert) (lefts rights : List FeedRow) → IsGood cert → Continues cert.left lefts → Continues cert.right rights
         → numbers_of (take cert.k (answers lefts rights)) ≡ cert.pairs }

@@ -12,7 +12,12 @@ use rs_feed_join::FeedJoin;
 use rs_value::{List, Memory};
 use std::alloc::Global;
 
-/// The certificate of these pairs, by the numbers of their rows, with the rows that a join drew. It copies them.
+/// The certificate of these pairs, by the numbers of their rows, with the rows that a join drew and the sides that
+/// ended. It copies them.
+///
+/// # Errors
+///
+/// - `Memory`: at any call.
 pub fn cert_of(alloc: Global, join: &FeedJoin, k: u32, pairs: &[(u32, u32)]) -> Result<Cert, Memory>
     ensures { IfOk result (λ cert. cert ≡ cert_of join.now k pairs.now) }
 {
@@ -44,6 +49,10 @@ fn side_of(alloc: Global, join: &FeedJoin, side: u8) -> Result<CertSide, Memory>
 }
 
 /// The bytes of the certificate of these pairs. Where they are the pairs that the join gave, as many as are wanted or all, it is good.
+///
+/// # Errors
+///
+/// - `Memory`: at any call.
 pub fn write(
     alloc: Global,
     join: &FeedJoin,

@@ -22,9 +22,10 @@ ghost use Rattle.rs_syntax.specs.Written.{IsWrittenQuery};
 
 use rs_exec::plans_give_the_answer;
 
-/// What a query puts under `run` comes first among the lines of its answer, and what a FETCH puts comes first among the lines of
-/// the next rows of its cursor's query, over the rows that the cursor sees. This holds of each first part of the events, so also where a fault of the definition
-/// ends them, or a call or a put that fails.
+/// What a query puts by its plan comes first among the lines of its answer, and what a FETCH puts comes first among the lines of the next
+/// rows of its cursor's query, over the rows that the cursor sees. This holds of each first part of the events, so also where a fault of
+/// the definition ends them, or a call or a put that fails. It says that these lines are the first ones, and not how many they are:
+/// `asks_in_all` and `next_asks` say how many rows are asked for.
 pub fn queries_put_the_first_lines_of_their_answers()
     ensures queries { (answer : Answering) (sampling : Sampling) (catalogue : CatalogDef) (query : syntax.Query) (bound : Query) (done rest : List Event)
         → IsWrittenQuery query → bound_query catalogue query ≡ Ok bound

@@ -2,7 +2,8 @@
 //! a query, or opens, asks or closes a cursor. It says with which faults runs end, too.
 //!
 //! Its promise: a statement's fetches, calls and puts, in order, the catalogue and open cursors that it leaves, or the
-//! fault that ends the run, are as defined; so are the line and the status of each fault.
+//! fault that ends the run, are as defined; so is the line of each fault. A fault ends the run: no clause says what the catalogue and the
+//! cursors are behind one, but for INSERT, which leaves the catalogue as it was.
 #![tactic(auto)]
 
 mod analyzed;

@@ -20,8 +20,24 @@ use rs_table_feed::TableFeed;
 use rs_value::Text;
 use std::alloc::Global;
 
-/// Does what `cert LEFT RIGHT K` says: it joins two files that are ranked feeds as `feed` does, and puts the certificate of the first
-/// `k` pairs and of the rows that were drawn for them. It puts nothing before the join is done.
+/// Does what `cert LEFT RIGHT K` says: it joins two files that are ranked feeds as `feed` does, and puts, in one put,
+/// the certificate of the first `k` pairs, or of all, and of the rows that were drawn for them, with an end where one
+/// draw was behind the last row. It puts nothing before the join is done. `k` is at most 1,000,000, since the
+/// certificate says it and is to be read back.
+///
+/// # Errors
+///
+/// - `Read`: with `Missing` or `TooLong` exactly where the run comes to the fetch of a name that isn't there, or of a
+///   file of more than 33,554,432 bytes; with `Failed` only where a fetch failed.
+/// - `Table`: exactly where the run comes to a file that is no table with the columns `key TEXT, score INT`.
+/// - `Range`: exactly where it comes to such a table with a number outside 0 to 4,294,967,295.
+/// - `Order`: exactly where the run comes to the draw of a row whose score is greater than that of the row before it.
+///   Nothing is out.
+/// - `CertTooLong`: exactly where the run comes to the end of the join, and more than 8,192 rows of a side were drawn;
+///   the left side is told first.
+/// - `Write`: only where the put failed.
+/// - `CertForm`: never.
+/// - `Memory`: at any call.
 pub fn cert_word<F: Files, O: Sink>(
     alloc: Global,
     left: &Text,

@@ -19,8 +19,24 @@ use rs_table_feed::TableFeed;
 use rs_value::Text;
 use std::alloc::Global;
 
-/// Does what `feed LEFT RIGHT K` says: it joins two files that are ranked feeds by their texts, and puts the first `k` pairs, each
-/// as soon as no pair that is still to come can precede it, and then how many rows it drew of both.
+/// Does what `feed LEFT RIGHT K` says: it joins two files that are ranked feeds by their texts, and puts the first `k`
+/// pairs, each once it comes at or before the thresholds of the join, and then how many rows it drew of both.
+///
+/// The right file is fetched only where the left one is a feed. The pairs are those of both fronts in which no score
+/// rises, in the stable order of their sums, each in one put. A row that is drawn and out of order ends the run, behind
+/// the pairs in front. It takes any number of pairs; where the words are read, K is at most 1,000,000.
+///
+/// # Errors
+///
+/// - `Read`: with `Missing` or `TooLong` exactly where the run comes to the fetch of a name that isn't there, or of a
+///   file of more than 33,554,432 bytes; with `Failed` only where a fetch failed.
+/// - `Table`: exactly where the run comes to a file that is no table with the columns `key TEXT, score INT`.
+/// - `Range`: exactly where it comes to such a table with a number outside 0 to 4,294,967,295.
+/// - `Order`: exactly where the run comes to the draw of a row whose score is greater than that of the row before it.
+///   The pairs in front of it are out.
+/// - `Write`: only where a put failed.
+/// - `CertTooLong`, `CertForm`: never.
+/// - `Memory`: at any call.
 pub fn feed_word<F: Files, O: Sink>(
     alloc: Global,
     left: &Text,
