@@ -90,9 +90,12 @@ def asking_explanation(said, words, body):
         return [asking_advice.of_write()]
     if fault.kind == "differs":
         return [asking_advice.of_differs()]
-    name = fault.name.split(",")[0]
-    if fault.kind == "score" and name in words[0].split(","):
-        return [asking_advice.of_score(name, *fault.numbers[:2])]
+    if fault.kind == "lost":
+        return [asking_advice.of_lost(words)]
+    if fault.kind == "answer":
+        return [asking_advice.of_answer(fault)]
+    if fault.kind == "score" and fault.name in words[0].split(","):
+        return [asking_advice.of_score(fault)]
     ends = asking_advice.of_read(fault, words) if fault.kind == "read" else ""
     if ends:
         return [ends]
