@@ -2,8 +2,10 @@
 
 from ranksql_tools import asking_advice, bind_advice, certificate_advice, command_advice, data_advice, parse_advice
 from ranksql_tools.faults import lines_of, read_asking_fault, read_fault
+from ranksql_tools.file_sorts import of_odd_script
 from ranksql_tools.foreign_advice import foreign_word
 from ranksql_tools.limits import MOST_CURSORS, SCRIPT_WORDS
+from ranksql_tools.program import helper
 from ranksql_tools.script_parse import parse
 from ranksql_tools.script_place import Place, scorings
 from ranksql_tools.script_text import tokens_of, with_caret, without_mark
@@ -66,6 +68,9 @@ def explained_fault(fault, words, body):
         if body is None:
             return []
         body = without_mark(body)
+        odd = of_odd_script(words[1], body, helper("prepare")) if fault.step in ("", "lex", "parse") else ""
+        if odd:
+            return [odd]
         says = of_script(fault, body)
         return [*with_caret(body, fault.place), *([says] if says else [])]
     return of_data(fault, words, body)
