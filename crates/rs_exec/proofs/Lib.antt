@@ -3,6 +3,7 @@ mod AlikeFacts
 mod AnswerFacts
 mod FeedFacts
 mod BlockFacts
+mod CertifyFacts
 mod CoreFacts
 mod CountFacts
 pub mod CoversFacts

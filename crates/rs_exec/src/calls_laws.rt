@@ -1,0 +1,30 @@
+//! What the calls of a plan tell of its rows: laws that hold of every catalogue and query, and of every two scorers. The functions
+//! compute nothing; each is called for its contract.
+
+ghost use Rattle.std.specs.Prelude.{◌≡◌, ℕ, suc, take};
+ghost use Rattle.rs_expr.specs.Scoring.{Answering};
+ghost use Rattle.rs_catalog.specs.Catalog.{CatalogDef};
+ghost use Rattle.rs_query.specs.declared.query.Query.{Query};
+ghost use Rattle.rs_plan.specs.Calls.{calls_of_plan, questions};
+ghost use Rattle.rs_plan.specs.Trees.{PlanTree};
+ghost use Rattle.rs_exec.specs.Asking.{world_of};
+ghost use Rattle.rs_exec.specs.Certifying.{AnswerAlike, AnswersFit, IsRankedScan};
+ghost use Rattle.rs_exec.specs.Cursors.{answers_of, next_answer};
+
+/// The calls of a plan of one table certify its rows: where two scorers answer the questions of its first asks alike, its first rows
+/// are the same for both, with their scores. So are the calls of these asks, and what each of them comes to. No answer that wasn't
+/// asked for can change them.
+pub fn calls_certify_rows()
+    ensures rows { (catalogue : CatalogDef) (query : Query) (tree : PlanTree) (answer other : Answering) (n : ℕ)
+        → IsRankedScan tree → AnswersFit catalogue query tree answer → AnswersFit catalogue query tree other
+        → AnswerAlike catalogue answer other (questions (world_of catalogue answer query) 1 tree n)
+        → take n (answers_of (world_of catalogue answer query) tree) ≡ take n (answers_of (world_of catalogue other query) tree) }
+    ensures calls { (catalogue : CatalogDef) (query : Query) (tree : PlanTree) (answer other : Answering) (n : ℕ)
+        → IsRankedScan tree → AnswersFit catalogue query tree answer → AnswersFit catalogue query tree other
+        → AnswerAlike catalogue answer other (questions (world_of catalogue answer query) 1 tree n)
+        → calls_of_plan (world_of catalogue answer query) tree n ≡ calls_of_plan (world_of catalogue other query) tree n }
+    ensures asks { (catalogue : CatalogDef) (query : Query) (tree : PlanTree) (answer other : Answering) (n : ℕ)
+        → IsRankedScan tree → AnswersFit catalogue query tree answer → AnswersFit catalogue query tree other
+        → AnswerAlike catalogue answer other (questions (world_of catalogue answer query) 1 tree (suc n))
+        → next_answer (world_of catalogue answer query) tree n ≡ next_answer (world_of catalogue other query) tree n }
+{}
