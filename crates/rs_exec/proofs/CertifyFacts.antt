@@ -114,7 +114,7 @@ at-alike f g (x ∷ xs) zero each = each x refl
 at-alike f g (x ∷ xs) (suc i) each = at-alike f g xs i each
 
 -- the asks of an only child, one by one
-abbrev left_ask : ℕ → SideAsk
+abbrev pub left_ask : ℕ → SideAsk
 left_ask n = record { side = Left; number = n }
 
 each-ask : {B : Type 0} (P : B → Type 0) (f : SideAsk → List B) (first count : ℕ) → AllByRecursion P (flat_map f (asks_from Left first count)) → (i : ℕ) → i < count → AllByRecursion P (f (left_ask (first + i)))
@@ -127,7 +127,7 @@ each-ask P f first (suc count) all (suc i) less =
     subst (λ n. AllByRecursion P (f (left_ask n))) same
     (each-ask P f (suc first) count (each-behind P (f (left_ask first)) (flat_map f (asks_from Left (suc first) count)) all) i (omega arith))
 
-asks-alike : {B : Type 0} (f g : SideAsk → List B) (first count : ℕ) → ((i : ℕ) → i < count → f (left_ask (first + i)) ≡ g (left_ask (first + i)))
+pub asks-alike : {B : Type 0} (f g : SideAsk → List B) (first count : ℕ) → ((i : ℕ) → i < count → f (left_ask (first + i)) ≡ g (left_ask (first + i)))
     → flat_map f (asks_from Left first count) ≡ flat_map g (asks_from Left first count)
 asks-alike f g first zero each = refl
 asks-alike f g first (suc count) each =
@@ -358,7 +358,7 @@ module _ (catalogue : CatalogDef) (answer other : Answering) where
 -- a plan of one table
 module _ (catalogue : CatalogDef) (answer other : Answering) (query : Query) (tree : PlanTree) (n : ℕ) (is : IsRankedScan tree)
     (fits : AnswersFit catalogue query tree answer) (other_fits : AnswersFit catalogue query tree other) where
-  are-worlds : AreWorlds catalogue answer other query 1
+  pub are-worlds : AreWorlds catalogue answer other query 1
   are-worlds = record {
     formed = fits.formed;
     has = first-block query;

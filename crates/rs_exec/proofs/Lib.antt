@@ -14,6 +14,7 @@ mod DistinctListFacts
 mod DistinctStepFacts
 mod DrawFacts
 mod FewFacts
+mod GreaterFacts
 pub mod HeldFacts
 mod LargerAnswers
 mod LargerFacts

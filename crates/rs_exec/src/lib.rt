@@ -25,7 +25,7 @@ mod set_laws;
 mod start;
 mod tally;
 
-pub use calls_laws::calls_certify_rows;
+pub use calls_laws::{calls_certify_rows, greater_answers_call_no_more};
 pub use cursor::Cursor;
 pub use distinct_laws::distinct_gives_the_first_rows;
 pub use fault::ExecFault;
