@@ -64,18 +64,18 @@ reached cert i left j right pair l r is e f g =
     (subst (λ left. IfSome left (λ l. IfSome right (λ r. IsNoLater pair_cmp (λ p. p) pair (merged i l j r)))) f
     (subst (λ last. IfSome last (λ pair. IfSome left (λ l. IfSome right (λ r. IsNoLater pair_cmp (λ p. p) pair (merged i l j r))))) e is))
 
+-- the pairs of the rows that were drawn are pairs of the feeds
+pub wider : (cert : Cert) (lefts rights : List FeedRow) → Continues cert.left lefts → Continues cert.right rights → (pair : Pair) → In pair (answers_of cert) → In pair (answers lefts rights)
+wider cert lefts rights more_left more_right pair h =
+    let made = In-answers-back cert.left.rows cert.right.rows pair h in
+    subst (λ p. In p (answers lefts rights)) (sym made.is)
+    (In-answers lefts rights made.left_place made.right_place made.left made.right
+    (begin-at cert.left lefts made.left_place made.left more_left made.left_at)
+    (begin-at cert.right rights made.right_place made.right more_right made.right_at)
+    made.same)
+
 -- what is left to show: a pair of the feeds is one of the rows that were drawn, or comes behind the last pair of the certificate
 module _ (cert : Cert) (lefts rights : List FeedRow) (good : IsGood cert) (more_left : Continues cert.left lefts) (more_right : Continues cert.right rights) where
-  -- the pairs of the rows that were drawn are pairs of the feeds
-  wider : (pair : Pair) → In pair (answers_of cert) → In pair (answers lefts rights)
-  wider pair h =
-      let made = In-answers-back cert.left.rows cert.right.rows pair h in
-      subst (λ p. In p (answers lefts rights)) (sym made.is)
-      (In-answers lefts rights made.left_place made.right_place made.left made.right
-      (begin-at cert.left lefts made.left_place made.left more_left made.left_at)
-      (begin-at cert.right rights made.right_place made.right more_right made.right_at)
-      made.same)
-
   -- the last pair of the certificate comes before a pair whose left row wasn't drawn
   behind_left : (last pair : Pair) → last_of (first_answers cert) ≡ Some last → In last (answers_of cert) → (z : IsPair 1 lefts rights pair) → length cert.left.rows ≤ z.left_place → pair_cmp last pair ≡ Less
   behind_left last pair e h z past =
@@ -153,7 +153,7 @@ module _ (cert : Cert) (lefts rights : List FeedRow) (good : IsGood cert) (more_
       Climbs-shared pair_cmp pair_cmp-total (λ p. p) (length cert.pairs) (answers_of cert) (answers lefts rights)
       (Climbs-answers cert.left.rows cert.right.rows)
       (Climbs-answers lefts rights)
-      wider
+      (wider cert lefts rights more_left more_right)
       (narrow (length cert.pairs) refl)
 
   -- where no pair can come, they are all
