@@ -14,6 +14,10 @@ pub record Continues (side : CertSide) (rows : List FeedRow) : Type 0 where
   pub begins : take (length side.rows) rows ≡ side.rows
   pub ends : side.ended ≡ true → rows ≡ side.rows
 
+-- the first pairs of all feeds that continue both sides of a certificate, as many as are wanted, are its pairs
+abbrev pub Determines : Cert → Type 0
+Determines cert = (lefts rights : List FeedRow) → Continues cert.left lefts → Continues cert.right rights → numbers_of (take cert.k (answers lefts rights)) ≡ cert.pairs
+
 -- two feeds that continue both sides of a certificate, and whose first pairs, as many as are wanted, are others than its pairs
 pub record Counterexample (cert : Cert) : Type 0 where
   pub lefts : List FeedRow
