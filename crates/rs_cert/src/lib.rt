@@ -26,7 +26,9 @@ pub use checking::check;
 pub use draft::MOST_ROWS;
 pub use entry::MOST_WANTED;
 pub use fault::CertFault;
-pub use laws::{good_certificates_are_sound, records_are_of_one_certificate};
+pub use laws::{
+    good_certificates_are_sound, records_are_of_one_certificate, refusals_are_deserved,
+};
 pub use reading::read_cert;
 pub use verdict::Verdict;
 pub use writing::write;

@@ -131,6 +131,7 @@ impl FeedJoin {
     pub fn drawn(&self, side: u8) -> u32
         ensures value { result ≡ length (side_in side self.now).rows }
         ensures few { result ≤ most_rows }
+        ensures kept { IsKept self.now }
     {
         self.side(side).rows.len() as u32
     }
@@ -157,6 +158,7 @@ impl FeedJoin {
     fn side(&self, side: u8) -> &DrawnSide
         ensures side { side_of result.now ≡ side_in side self.now }
         ensures few { length result.now.rows.items ≤ most_rows }
+        ensures kept { IsKept self.now }
     {
         if side == 1 {
             &self.parts.left
