@@ -232,33 +232,34 @@ module _ (give : GiveAnswers) (answer : Answering) where
 
   -- a FETCH of a cursor by a plan
   module _ (state : State) (query : Query) (tree : PlanTree) (sizes : List ℕ) (name : List ℕ) (asked wanted : ℕ) (few : HasFewTerms query) (plans : IsPlan (snapshot sizes state.catalogue) query tree) where
-    abbrev w : plan.World
-    w = world_of (snapshot sizes state.catalogue) answer query
+    abbrev seen_world : plan.World
+    seen_world = world_of (snapshot sizes state.catalogue) answer query
 
-    abbrev asks : ℕ
-    asks = next_asks w tree asked wanted
+    abbrev fetch_asks : ℕ
+    fetch_asks = next_asks seen_world tree asked wanted
 
-    abbrev step : Step CatalogDef
-    step = asks_from w tree asked asks
+    abbrev fetch_asked : Step CatalogDef
+    fetch_asked = asks_from seen_world tree asked fetch_asks
 
-    abbrev lines : List (List ℕ)
-    lines = next_lines (answer_of answer (snapshot sizes state.catalogue) query (all_rows (snapshot sizes state.catalogue) query)) asked wanted
+    abbrev wanted_lines : List (List ℕ)
+    wanted_lines = next_lines (answer_of answer (snapshot sizes state.catalogue) query (all_rows (snapshot sizes state.catalogue) query)) asked wanted
 
-    lines-are : rank_lines (suc asked) (take asks (drop asked (answers_of w tree))) ≡ lines
-    lines-are = lines-asked w tree asked wanted ∙ ap (λ rows. next_lines rows asked wanted) (give w tree few plans)
+    lines-are : rank_lines (suc asked) (take fetch_asks (drop asked (answers_of seen_world tree))) ≡ wanted_lines
+    lines-are = lines-asked seen_world tree asked wanted ∙ ap (λ rows. next_lines rows asked wanted) (give seen_world tree few plans)
 
     -- what it puts comes first among the lines of the next rows of the answer
-    first-fetch : ComeFirst (puts (fetched_from answer state name asked wanted (ByPlan query tree sizes)).events) lines
-    first-fetch = subst (λ put. ComeFirst put lines) (sym (puts-then_still step.events step.outcome (with_asks name asks state)))
-        (subst (ComeFirst (puts step.events)) lines-are (first-asks w tree asked asks))
+    first-fetch : ComeFirst (puts (fetched_from answer state name asked wanted (ByPlan query tree sizes)).events) wanted_lines
+    first-fetch = subst (λ put. ComeFirst put wanted_lines) (sym (puts-then_still fetch_asked.events fetch_asked.outcome (with_asks name fetch_asks state)))
+        (subst (ComeFirst (puts fetch_asked.events)) lines-are (first-asks seen_world tree asked fetch_asks))
 
     -- and where it ends well it is all of them
     all-fetch : (after : State) → (fetched_from answer state name asked wanted (ByPlan query tree sizes)).outcome ≡ Ok after
-        → puts (fetched_from answer state name asked wanted (ByPlan query tree sizes)).events ≡ lines
-    all-fetch after ends = puts-then_still step.events step.outcome (with_asks name asks state) ∙ go step.outcome refl ends ∙ lines-are where
-      go : (outcome : Result CatalogDef Fault) → step.outcome ≡ outcome → (then_step (record step { outcome = outcome }) (still (Ok (with_asks name asks state)))).outcome ≡ Ok after
-          → puts step.events ≡ rank_lines (suc asked) (take asks (drop asked (answers_of w tree)))
-      go (Ok next) is e = (puts-asks w tree asked asks next is).0
+        → puts (fetched_from answer state name asked wanted (ByPlan query tree sizes)).events ≡ wanted_lines
+    all-fetch after ends = puts-then_still fetch_asked.events fetch_asked.outcome (with_asks name fetch_asks state) ∙ go fetch_asked.outcome refl ends ∙ lines-are where
+      go : (outcome : Result CatalogDef Fault) → fetch_asked.outcome ≡ outcome
+          → (then_step (record fetch_asked { outcome = outcome }) (still (Ok (with_asks name fetch_asks state)))).outcome ≡ Ok after
+          → puts fetch_asked.events ≡ rank_lines (suc asked) (take fetch_asks (drop asked (answers_of seen_world tree)))
+      go (Ok next) is e = (puts-asks seen_world tree asked fetch_asks next is).0
       go (Err fault) is e = absurd cc
 
 -- and what a FETCH of a cursor puts whose plan is the chosen one
