@@ -16,8 +16,8 @@ use std::{fs, io};
 /// How many bytes one read asks for at most.
 const CHUNK: usize = 8192;
 
-/// The files of the system, by their paths; a relative one starts from the current folder.
-/// Contracts see how many fetches failed.
+/// The files of the system, by their paths; a relative one starts from the current folder. Contracts see how many
+/// fetches failed. A name is handed to the system as a path, so it may lead out of the current folder.
 #[derive(Drop)]
 pub struct DirFiles<R> {
     rt: R,
@@ -87,7 +87,12 @@ fn append_rest<F: Read>(
 /// fault `into` is as before. A read that a signal interrupts is tried again.
 ///
 /// # Errors
-/// `TooLong` beyond the limit; `Memory` where the system or this program has none; `Failed` for any other error of a read.
+///
+/// - `TooLong`: where the reader tells its bytes and the answer is neither `Failed` nor `Memory`, exactly where more
+///   than `limit` are left; of any reader only where the last read gave bytes.
+/// - `Failed`: only where the last read failed.
+/// - `Memory`: only where the last read gave bytes, or the system had no memory for it; `into` is as before.
+/// - `Missing`: never.
 pub fn fetch_rest<F: Read>(
     file: &mut Reading<F>,
     limit: usize,
@@ -111,8 +116,11 @@ pub fn fetch_rest<F: Read>(
 /// What a fetch gives where the file was opened, or was not.
 ///
 /// # Errors
-/// Where it was not opened, `Missing` for an error of the kind not found alone, `Memory` where the system has none, and
-/// `Failed` for any other error. Where it was, those of [`fetch_rest`].
+///
+/// - `Missing`: exactly where the file wasn't opened, since the system says that it wasn't found.
+/// - `Failed`: where it wasn't opened, for any other error but want of memory.
+/// - `Memory`: where it wasn't opened, exactly where the system had no memory for that.
+/// - Those of `fetch_rest`: where it was opened.
 pub fn fetch_opened<F: Read + Drop>(
     opened: io::Result<F>,
     limit: usize,
