@@ -1,5 +1,5 @@
 -- The records of bytes whose last record is ended, behind which more is written.
-use Rattle.std.proofs.Common.{◌≡◌, ◌⊎◌, ◌==◌, ◌+◌, ◌<◌, ◌≤◌, ℕ, zero, suc, Bool, true, false, List, [], ◌∷◌, ◌++◌, length, Some, refl, sym, ap, ◌∙◌, subst, inl, inr, arith, zero-add}
+use Rattle.std.proofs.Common.{◌≡◌, ◌⊎◌, ◌==◌, ◌+◌, ◌-◌, ◌<◌, ◌≤◌, ℕ, zero, suc, Bool, true, false, List, [], ◌∷◌, ◌++◌, length, Some, refl, sym, ap, ◌∙◌, subst, inl, inr, append-nil, arith, zero-add}
 use Rattle.std.proofs.lemmas.Bool.{cases_Bool, eqb-true, true≢false}
 use Rattle.csv.specs.Machine.{field_after, fields_after, is_end, next_record, step}
 use Rattle.csv.specs.Reading.{Reached, default_config, records_from, records_next}
@@ -77,8 +77,8 @@ at-other byte feed return comma quote st.StartRecord Record same = rw (feed, ret
 at-other byte feed return comma quote st.StartRecord Field same = rw (feed, return, comma, quote) (tt, λ goes is. absurd is)
 at-other byte feed return comma quote st.AfterCr Field same = rw (feed, return, comma, quote) (tt, λ goes is. absurd is)
 at-other byte feed return comma quote st.StartField Field same = rw (feed, return, comma, quote) (tt, λ goes is. absurd is)
-at-other byte feed return comma quote st.InField Plain same = rw (feed, return, comma, quote) (tt, λ goes is. absurd is)
-at-other byte feed return comma quote st.InQuoted Quoted same = rw (feed, return, comma, quote) (tt, λ goes is. absurd is)
+at-other byte feed return comma quote st.InField Plain same = rw (feed, return, comma) (tt, λ goes is. absurd is)
+at-other byte feed return comma quote st.InQuoted Quoted same = rw quote (tt, λ goes is. absurd is)
 at-other byte feed return comma quote st.AfterQuote Closed same = rw (feed, return, comma, quote) (tt, λ goes is. absurd is)
 at-other byte feed return comma quote state place same = absurd same
 
@@ -220,7 +220,7 @@ records-same zero one two bytes other e = refl
 records-same (suc most) one two bytes other e = ap (records_next (records_from default_config most)) e
 
 -- no record is in no bytes
-records-none : (most : ℕ) → records_from default_config most st.StartRecord [] ≡ []
+pub records-none : (most : ℕ) → records_from default_config most st.StartRecord [] ≡ []
 unfolding records_from next_record
 records-none zero = refl
 records-none (suc most) = refl

@@ -1,9 +1,9 @@
 -- Scores that were written are read back.
-use Rattle.std.proofs.Common.{◌≡◌, ◌+◌, ◌-◌, ◌<◌, ◌≤◌, ℕ, zero, suc, Bool, true, false, List, [], ◌∷◌, ◌++◌, length, map, take, Option, Some, None, Result, Ok, Err, refl, sym, ap, ◌∙◌, subst, arith, append_assoc, length-append, get_or}
+use Rattle.std.proofs.Common.{◌≡◌, ◌==◌, ◌+◌, ◌-◌, ◌<◌, ◌≤◌, ℕ, ℤ, pos, negsuc, zero, suc, Bool, true, false, List, [], ◌∷◌, ◌++◌, eqb-true, inl, inr, length, map, take, Option, Some, None, Result, Ok, Err, refl, sym, ap, ◌∙◌, subst, arith, append_assoc, length-append, get_or}
 use Rattle.std.specs.Fmt.{signed_decimal}
 use Rattle.std.specs.List.{All, concat}
 use Rattle.std.specs.Prelude.{if◌then◌else◌, nat_abs, slice_index_or}
-use Rattle.std.specs.Str.{is_utf8}
+use Rattle.std.specs.Str.{IsAscii, is_utf8}
 use Rattle.std.proofs.lemmas.Bool.{cases_Bool, le-ltb, true≢false}
 use Rattle.std.proofs.lemmas.Fmt.{IsAscii-signed}
 use Rattle.std.proofs.lemmas.Grind.{common_steps}
@@ -48,18 +48,26 @@ pair-of [] some = absurd (omega (arith, some))
 pair-of (first ∷ []) some = absurd (omega (arith, some))
 pair-of (first ∷ second ∷ rest) some = record { first = first; second = second; rest = rest; are = refl }
 
--- the texts of fields that are UTF-8
-texts_from-utf8 : (number place : ℕ) (fields : List (List ℕ)) → All (λ field. is_utf8 field ≡ true) fields → texts_from number place fields ≡ Ok fields
-texts_from-utf8 number place [] all = refl
-texts_from-utf8 number place (field ∷ rest) all = rw (all.0, texts_from-utf8 number (place + 1) rest all.1) refl
+-- what holds of all holds of the first, and of those behind it
+first-holds : {X : Type 0} (P : X → Type 0) (x : X) (xs : List X) → All P (x ∷ xs) → P x
+first-holds P x xs all = all 0 x (omega arith)
 
-All-push : {X : Type 0} (P : X → Type 0) (xs : List X) (x : X) → All P xs → P x → All P (xs ++ x ∷ [])
-All-push P [] x all last = (last, tt)
-All-push P (first ∷ rest) x all last = (all.0, All-push P rest x all.1 last)
+rest-hold : {X : Type 0} (P : X → Type 0) (x : X) (xs : List X) → All P (x ∷ xs) → All P xs
+rest-hold P x xs all = λ k d below. all (suc k) d (omega (arith, below))
 
-utf8-score : (entry : KnownScore) → nat_abs entry.score ≤ greatest_int → is_utf8 (signed_decimal entry.score) ≡ true
-utf8-score entry few =
-    is_utf8-from_IsUtf8 (signed_decimal entry.score) (IsUtf8-from_ascii (signed_decimal entry.score) (IsAscii-signed entry.score (omega (arith, few))))
+-- the texts of fields that are UTF-8, and of one more
+texts_from-push : (number place : ℕ) (fields : List (List ℕ)) (last : List ℕ) → All (λ field. is_utf8 field ≡ true) fields → is_utf8 last ≡ true
+    → texts_from number place (fields ++ last ∷ []) ≡ Ok (fields ++ last ∷ [])
+texts_from-push number place [] last all is = rw is refl
+texts_from-push number place (field ∷ rest) last all is =
+    rw (first-holds (λ text. is_utf8 text ≡ true) field rest all, texts_from-push number (place + 1) rest last (rest-hold (λ text. is_utf8 text ≡ true) field rest all) is) refl
+
+ascii-score : (score : ℤ) → nat_abs score ≤ greatest_int → IsAscii (signed_decimal score)
+ascii-score (pos n) few = IsAscii-signed (pos n) (omega (arith, few))
+ascii-score (negsuc n) few = IsAscii-signed (negsuc n) (omega (arith, few))
+
+utf8-score : (score : ℤ) → nat_abs score ≤ greatest_int → is_utf8 (signed_decimal score) ≡ true
+utf8-score score few = is_utf8-from_IsUtf8 (signed_decimal score) (IsUtf8-from_ascii (signed_decimal score) (ascii-score score few))
 
 first-of : (fields : List (List ℕ)) (last : List ℕ) → 2 ≤ length fields → slice_index_or (fields ++ last ∷ []) 0 [] ≡ slice_index_or fields 0 []
 first-of [] last some = absurd (omega (arith, some))
@@ -83,7 +91,7 @@ known_of-record names number entry kept =
     let size : length fields ≡ length entry.question + 1 = length-pushed entry.question score in
     let enough = le-ltb (length fields) 3 (omega (arith, size, kept.some)) in
     let few = le-ltb 10 (length fields) (omega (arith, size, kept.few)) in
-    let texts : texts_from number 1 fields ≡ Ok fields = texts_from-utf8 number 1 fields (All-push (λ field. is_utf8 field ≡ true) entry.question score kept.utf8 (utf8-score entry kept.in_range)) in
+    let texts : texts_from number 1 fields ≡ Ok fields = texts_from-push number 1 entry.question score kept.utf8 (utf8-score entry.score kept.in_range) in
     let front : length fields - 1 ≡ length entry.question = omega (arith, size) in
     let asked : is_asked names (slice_index_or fields 0 []) ≡ true = ap (is_asked names) (first-of entry.question score kept.some) ∙ kept.asked in
     let value : int_value (slice_index_or fields (length fields - 1) []) ≡ Some entry.score =
@@ -98,9 +106,9 @@ scores_from-kept : (names : List (List ℕ)) (number : ℕ) (before entries : Li
 scores_from-kept names number before [] kept new = ap Ok (sym (append-nil before))
 scores_from-kept names number before (entry ∷ rest) kept new =
     let added : with_entry number before entry ≡ Ok (before ++ entry ∷ []) = rw new.0 refl in
-    ap (λ answer. (answer >>= with_entry number before) >>= λ all. scores_from names (number + 1) all (map record_fields rest)) (known_of-record names number entry kept.0)
+    ap (λ answer. (answer >>= with_entry number before) >>= λ all. scores_from names (number + 1) all (map record_fields rest)) (known_of-record names number entry (first-holds (CanBeKept names) entry rest kept))
     ∙ ap (λ answer. answer >>= λ all. scores_from names (number + 1) all (map record_fields rest)) added
-    ∙ scores_from-kept names (number + 1) (before ++ entry ∷ []) rest kept.1 new.1
+    ∙ scores_from-kept names (number + 1) (before ++ entry ∷ []) rest (rest-hold (CanBeKept names) entry rest kept) new.1
     ∙ ap Ok (append_assoc before (entry ∷ []) rest)
 
 -- records behind records whose scores are these
@@ -144,19 +152,21 @@ length-lines (entry ∷ rest) =
 lines-ended : (names : List (List ℕ)) (entries : List KnownScore) → All (CanBeKept names) entries → place_behind Record (concat (known_lines entries)) ≡ Record
 lines-ended names [] kept = refl
 lines-ended names (entry ∷ rest) kept =
-    let pair = pair-of entry.question kept.0.some in
+    let here = first-holds (CanBeKept names) entry rest kept in
+    let pair = pair-of entry.question here.some in
     let score = signed_decimal entry.score in
     let line : place_behind Record (known_line entry) ≡ Record =
     subst (λ (question : List (List ℕ)). place_behind Record (known_line (record { question = question; score = entry.score })) ≡ Record) (sym pair.are) (behind-line pair.first pair.second (pair.rest ++ score ∷ [])) in
     place_behind-append Record (known_line entry) (concat (known_lines rest))
-    ∙ ap (λ place. place_behind place (concat (known_lines rest))) line ∙ lines-ended names rest kept.1
+    ∙ ap (λ place. place_behind place (concat (known_lines rest))) line ∙ lines-ended names rest (rest-hold (CanBeKept names) entry rest kept)
 
 -- and they begin with no byte order mark
 lines-unmarked : (names : List (List ℕ)) (entries : List KnownScore) → All (CanBeKept names) entries → is_marked (concat (known_lines entries)) ≡ false
 lines-unmarked names [] kept = refl
 lines-unmarked names (entry ∷ rest) kept =
-    let pair = pair-of entry.question kept.0.some in
-    let name : is_marked pair.first ≡ false = ap (λ (question : List (List ℕ)). is_marked (slice_index_or question 0 [])) (sym pair.are) ∙ kept.0.unmarked in
+    let here = first-holds (CanBeKept names) entry rest kept in
+    let pair = pair-of entry.question here.some in
+    let name : is_marked pair.first ≡ false = ap (λ (question : List (List ℕ)). is_marked (slice_index_or question 0 [])) (sym pair.are) ∙ here.unmarked in
     subst (λ (question : List (List ℕ)). is_marked (known_line (record { question = question; score = entry.score }) ++ concat (known_lines rest)) ≡ false) (sym pair.are)
     (unmarked-line pair.first pair.second (pair.rest ++ signed_decimal entry.score ∷ []) (concat (known_lines rest)) name)
 

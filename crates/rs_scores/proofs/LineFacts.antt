@@ -48,7 +48,7 @@ plain-byte byte e =
 after-plain : (place : Place) (byte : ℕ) → IsOutside place → IsPlain byte → place_after place byte ≡ Plain
 after-plain Record byte out plain = rw (plain.0, plain.1, plain.2, plain.3) refl
 after-plain Field byte out plain = rw (plain.0, plain.1, plain.2, plain.3) refl
-after-plain Plain byte out plain = rw (plain.0, plain.1, plain.2, plain.3) refl
+after-plain Plain byte out plain = rw (plain.0, plain.2, plain.3) refl
 after-plain Closed byte out plain = rw (plain.0, plain.1, plain.2, plain.3) refl
 after-plain Quoted byte out plain = absurd out
 
@@ -59,13 +59,17 @@ behind-plain place (byte ∷ rest) out none =
     let here = after-plain place byte out (plain-byte byte (or-left _ _ none)) in
     behind-plain (place_after place byte) rest (subst IsOutside (sym here) tt) (or-right _ _ none)
 
+-- a byte between quotes that is no quotation mark stays there
+after-quoted : (byte : ℕ) → (byte == 34) ≡ false → place_after Quoted byte ≡ Quoted
+after-quoted byte other = rw other refl
+
 -- bytes between quotes stay there
 behind-escaped : (bytes : List ℕ) → place_behind Quoted (escaped default_writer bytes) ≡ Quoted
 unfolding escaped
 behind-escaped [] = refl
 behind-escaped (byte ∷ rest) = elim (cases_Bool (byte == 34)) [
   | inl is ↦ rw is (subst (λ b. place_behind (place_after Closed b) (escaped default_writer rest) ≡ Quoted) (sym (eqb-true byte 34 is)) (behind-escaped rest))
-  | inr other ↦ rw other (rw other (behind-escaped rest))
+  | inr other ↦ rw other (ap (λ place. place_behind place (escaped default_writer rest)) (after-quoted byte other) ∙ behind-escaped rest)
 ]
 
 front-outside : (place : Place) → IsFront place → IsOutside place

@@ -31,8 +31,10 @@ pub fn read_known<F: Files>(
     ensures { FetchesFile ScoresFault.Memory (λ why. why ≡ ScoresFault.Fetch FetchFault.Failed) file.now result (IsKnownBy names.items)
         (F.state files.old) (F.state files.new) }
 {
-    let bytes = bytes_of(alloc, file, files)?;
-    known_by(alloc, names, &bytes)
+    match bytes_of(alloc, file, files) {
+        Ok(bytes) => known_by(alloc, names, &bytes),
+        Err(fault) => Err(fault),
+    }
 }
 
 /// The bytes of a file of scores. Where no file is there it has none.

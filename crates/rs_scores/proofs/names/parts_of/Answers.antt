@@ -6,4 +6,4 @@ use Rattle.rs_scores.proofs.names.parts_of.Goals as goal
 pub returns : goal.returns
 returns c =
     c.loop-part.invariant
-    ∙ (YieldsList-end (YieldsList-from_str_split 44 c.args.word.now (lit< tt) cc cc cc) c.loop-part.yielded _ c.loop-part.yielded_by _ _ c.in-None.is c.next.ensures.steps).0
+    ∙ (YieldsList-end (YieldsList-from_str_split 44 c.args.word.now (lit< tt) (cc) (cc) (cc)) c.loop-part.yielded _ c.loop-part.yielded_by _ _ c.in-None.is c.next.ensures.steps).0
