@@ -143,10 +143,7 @@ pub fn fetch_opened<F: Read + Drop>(
             let result = fetch_rest(&mut file, limit, into);
             (result, Answered::Read(file.into_last()))
         }
-        Err(error) => (
-            Err(fault_at_open(&error)),
-            Answered::Open(error.kind()),
-        ),
+        Err(error) => (Err(fault_at_open(&error)), Answered::Open(error.kind())),
     }
 }
 

@@ -237,7 +237,7 @@ joins bytes ended =
     let reads = reads-of (length bytes + 1) st.StartRecord Record bytes (omega arith) tt ended in
     let joined : (most : ℕ) (more : List ℕ) → records_from default_config (length reads.rows + most) st.StartRecord (bytes ++ more) ≡ reads.rows ++ records_from default_config most st.StartRecord more =
     λ most more. records-reached reads.rows most st.StartRecord reads.last (bytes ++ more) (reads.left ++ more) (reads.reached more)
-        ∙ ap (λ rest. reads.rows ++ rest) (records-same most reads.last st.StartRecord (reads.left ++ more) more (reads.goes_on more)) in
+    ∙ ap (λ rest. reads.rows ++ rest) (records-same most reads.last st.StartRecord (reads.left ++ more) more (reads.goes_on more)) in
     record {
       rows = reads.rows;
       few = reads.few;

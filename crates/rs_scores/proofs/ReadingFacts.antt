@@ -78,16 +78,15 @@ pub record Adds (known new : Known) (last : KnownScore) : Type 0 where
 -- an entry whose question has no score is the last one
 pub Reads-new : (names : List (List ℕ)) (number : ℕ) (before : List KnownScore) (known new : Known) (last : KnownScore) → Knows names before known
     → score_of last.question known ≡ None → Adds known new last → Reads names (with_entry number before last) (Ok tt) new
-Reads-new names number before known new last knows none adds =
-    (
-      before ++ last ∷ [],
-      rw (sym (knows.each last.question) ∙ none) refl,
-      record {
-        asked = adds.names ∙ knows.asked;
-        each = λ other. adds.scores other ∙ score_with-or_last known last other ∙ ap (or_last last other) (knows.each other) ∙ sym (score_in-push other before last);
-        count = adds.count ∙ ap (λ n. n + 1) knows.count ∙ sym (length-append before (last ∷ []));
-      },
-    )
+Reads-new names number before known new last knows none adds = (
+  before ++ last ∷ [],
+  rw (sym (knows.each last.question) ∙ none) refl,
+  record {
+    asked = adds.names ∙ knows.asked;
+    each = λ other. adds.scores other ∙ score_with-or_last known last other ∙ ap (or_last last other) (knows.each other) ∙ sym (score_in-push other before last);
+    count = adds.count ∙ ap (λ n. n + 1) knows.count ∙ sym (length-append before (last ∷ []));
+  },
+)
 
 -- an entry whose question has this score is taken once
 pub Reads-same : (names : List (List ℕ)) (number : ℕ) (before : List KnownScore) (known : Known) (last : KnownScore) (score : ℤ) → Knows names before known

@@ -7,9 +7,10 @@ use Rattle.rs_events.specs.Fetching.{fetched_bytes}
 use Rattle.rs_scores.specs.Known.{Known}
 use Rattle.rs_scores.specs.Reading.{Knows, scores_in}
 use Rattle.rs_scores.specs.declared.fault.KnownFault.{KnownFault}
+use Rattle.rs_scores.specs.declared.fault.KnownFault.TheVariants as fault
 use Rattle.rs_scores.specs.declared.known_score.KnownScore.{KnownScore}
 use Rattle.rs_scores.specs.declared.scores_fault.ScoresFault.{ScoresFault}
-use Rattle.rs_scores.specs.declared.scores_fault.ScoresFault.TheVariants.{Fetch, Refused}
+use Rattle.rs_scores.specs.declared.scores_fault.ScoresFault.TheVariants.{Fetch, Memory, Refused}
 
 -- the bytes of a file, or none where no file is there
 abbrev pub or_nothing : Result (List ℕ) FetchFault → Result (List ℕ) ScoresFault
@@ -21,10 +22,15 @@ or_nothing (Err fault) = Err (Fetch fault)
 abbrev pub score_bytes : Option (List ℕ) → Result (List ℕ) ScoresFault
 score_bytes there = or_nothing (fetched_bytes 33554432 there)
 
+-- why no scores are known, where a file's records are refused
+abbrev pub refused_for : KnownFault → ScoresFault
+refused_for fault.Memory = Memory
+refused_for why = Refused why
+
 -- the scores of a file that was read, or why it is refused
 abbrev pub or_refused : Result (List KnownScore) KnownFault → Result (List KnownScore) ScoresFault
 or_refused (Ok scores) = Ok scores
-or_refused (Err fault) = Err (Refused fault)
+or_refused (Err fault) = Err (refused_for fault)
 
 -- the scores that are known where these bytes are there, or no file is
 abbrev pub scores_there : List (List ℕ) → Option (List ℕ) → Result (List KnownScore) ScoresFault

@@ -1,6 +1,6 @@
 ghost use Rattle.std.specs.Prelude.{◌≡◌, ◌⊎◌, ◌≤◌, Err, IfOk, MatchResult, Ok, length};
 ghost use Rattle.rs_events.specs.Fetching.{FetchesFile};
-ghost use Rattle.rs_scores.specs.KnownBy.{IsKnownBy, KnowsBy, or_refused, score_bytes};
+ghost use Rattle.rs_scores.specs.KnownBy.{IsKnownBy, KnowsBy, or_refused, refused_for, score_bytes};
 ghost use Rattle.rs_scores.specs.Reading.{scores_in};
 
 use crate::fault::KnownFault;
@@ -59,7 +59,16 @@ fn known_by(alloc: Global, names: Vec<Text>, bytes: &[u8]) -> Result<KnownScores
 {
     match read_scores(alloc, names, bytes) {
         Ok(known) => Ok(known),
-        Err(KnownFault::Memory) => Err(ScoresFault::Memory),
-        Err(fault) => Err(ScoresFault::Refused(fault)),
+        Err(fault) => Err(refused(fault)),
+    }
+}
+
+/// Why no scores are known, where a file's records are refused.
+fn refused(fault: KnownFault) -> ScoresFault
+    ensures { result ≡ refused_for fault }
+{
+    match fault {
+        KnownFault::Memory => ScoresFault::Memory,
+        fault => ScoresFault::Refused(fault),
     }
 }

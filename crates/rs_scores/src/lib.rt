@@ -3,7 +3,8 @@
 //!
 //! Its promise: a call of a predicate that is asked for is answered by its known score, and fails where there is none; every
 //! other call has its formula's value; of a file of scores each record is read as its definition says, or the first one that is
-//! refused is named; and a file has the same bytes at each fetch.
+//! refused is named; what is written of known scores is read back as they, also behind what a file has already; and where a
+//! fetch of a name found a file, or that none is there, each later fetch of it finds the same.
 #![tactic(auto)]
 
 mod fault;

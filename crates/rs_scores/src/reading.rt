@@ -76,11 +76,7 @@ fn is_ended(bytes: &[u8]) -> bool
 fn unmarked(bytes: &[u8]) -> &[u8]
     ensures { result.now ≡ strip_bom bytes.now }
 {
-    if is_marked(bytes) {
-        &bytes[3..]
-    } else {
-        bytes
-    }
+    if is_marked(bytes) { &bytes[3..] } else { bytes }
 }
 
 /// Reads the scores of the records of a file into a table that has none.
