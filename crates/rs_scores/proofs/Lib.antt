@@ -9,5 +9,6 @@ pub mod NumeralFacts
 pub mod JoinFacts
 pub mod LineFacts
 pub mod KeptFacts
+pub mod NewFacts
 pub mod FoundFacts
 mod Worked

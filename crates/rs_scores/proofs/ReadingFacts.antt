@@ -43,11 +43,11 @@ Knows-none names known asked none = record {
 }
 
 -- the score of a question among some scores and one more: the first that there is
-abbrev or_last : KnownScore → List (List ℕ) → Option ℤ → Option ℤ
+abbrev pub or_last : KnownScore → List (List ℕ) → Option ℤ → Option ℤ
 or_last last question (Some first) = Some first
 or_last last question None = cond (is_same_question last.question question) (Some last.score) None
 
-score_in-push : (question : List (List ℕ)) (before : List KnownScore) (last : KnownScore)
+pub score_in-push : (question : List (List ℕ)) (before : List KnownScore) (last : KnownScore)
     → score_in question (before ++ last ∷ []) ≡ or_last last question (score_in question before)
 score_in-push question [] last =
     (elim (is_same_question last.question question) as (λ b. option_map (λ (known : KnownScore). known.score) (cond b (Some last) None) ≡ cond b (Some last.score) None) [

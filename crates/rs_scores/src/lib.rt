@@ -28,7 +28,7 @@ pub use known_file::read_known;
 pub use known_files::KnownFiles;
 pub use known_score::KnownScore;
 pub use known_tables::KnownTables;
-pub use laws::written_scores_are_read_back;
+pub use laws::{written_scores_are_never_missing, written_scores_are_read_back};
 pub use names::names_in;
 pub use question::Question;
 pub use reading::{MOST_BYTES, read_scores};
