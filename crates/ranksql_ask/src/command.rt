@@ -9,59 +9,99 @@ ghost use Rattle.ranksql_ask.specs.Endings.{Commands, Obeys, Tells, TellsMemory,
 ghost use Rattle.ranksql_ask.specs.Words.{command_form};
 
 use crate::fault::AskFault;
-use crate::prepare::prepare;
 use crate::script::Script;
-use crate::words::asking_of;
+use crate::words::{Request, request_of};
 use rs_ask::{Answers, Asked, Channel, Pass, Rerun, Stop, ask_and_run};
-use rs_outside::{DirFiles, Sink, SinkFault};
-use rs_run::{KnownScript, Readers, Status};
+use rs_outside::{Files, Sink, SinkFault};
+use rs_prepare::{EndNames, Opens, prepare};
+use rs_run::{KnownScript, Readers, Status, unmade_predicate};
 use rs_scores::{KnownFiles, KnownScores, KnownTables};
 use rs_value::{Memory, Text};
 use std::alloc::Global;
-use std::hash::RandomState;
 
 /// The exit status where a run doesn't begin with what was put already.
 const DIFFERS: u8 = 10;
 
-/// Does all that the program does: takes the words of the command line without the program's name, reads the known scores,
-/// opens the other files, runs the words that are left, and puts a line with the counts to `err` at the end. Answers the exit
-/// status.
-pub fn command<R: std::rt::Files, O: Sink, E: Sink>(
+/// Does all that the program does: takes the words of the command line without the program's name, looks whether the script makes the
+/// predicates that are asked for, makes ready what the asking needs, runs the words that are left, and puts a line with the counts to
+/// `err` at the end. Answers the exit status.
+///
+/// `opens` opens the files of the asking, the known scores are read from `kept`, and script and tables from `files`.
+pub fn command<H: Opens, F: Files, G: Files + Drop, O: Sink, E: Sink>(
     alloc: Global,
-    rt: &R,
-    hash_keys: RandomState,
     words: &[Text],
+    opens: &mut H,
+    kept: &mut F,
+    files: G,
     out: &mut O,
     err: &mut E,
-) -> u8
-    ensures { Commands (command_form words.now) result (O.state out.old) (O.state out.new) (E.state err.old) (E.state err.new) }
-{
-    let [names, scores, questions, answers, rest @ ..] = words else {
-        return refuse(alloc, &AskFault::Usage, err);
-    };
-    let Some(asking) = asking_of(rest) else {
-        return refuse(alloc, &AskFault::Usage, err);
-    };
-    match prepare(alloc, rt, hash_keys, names, scores, questions, answers) {
-        Ok(mut prepared) => {
-            let mut script = Script {
-                asking,
-                readers: Readers {
-                    script: KnownScript::new(),
-                    tables: KnownTables::new(alloc),
-                },
-                files: KnownFiles::new(alloc, DirFiles::new(rt, hash_keys)),
-            };
-            obey(
-                alloc,
-                &mut script,
-                &mut prepared.known,
-                &mut prepared.channel,
-                out,
-                err,
-            )
+) -> u8 {
+    match request_of(alloc, words) {
+        Ok(Some(request)) => answer(alloc, request, opens, kept, files, out, err),
+        Ok(None) => {
+            drop(files);
+            refuse(alloc, &AskFault::Usage, err)
         }
-        Err(fault) => refuse(alloc, &fault, err),
+        Err(Memory) => {
+            drop(files);
+            refuse(alloc, &AskFault::Memory, err)
+        }
+    }
+}
+
+/// Does what is asked for, where the script makes the predicates.
+fn answer<H: Opens, F: Files, G: Files + Drop, O: Sink, E: Sink>(
+    alloc: Global,
+    request: Request<'_>,
+    opens: &mut H,
+    kept: &mut F,
+    files: G,
+    out: &mut O,
+    err: &mut E,
+) -> u8 {
+    let Request { names, ends, asking } = request;
+    let mut script = Script {
+        asking,
+        readers: Readers {
+            script: KnownScript::new(),
+            tables: KnownTables::new(alloc),
+        },
+        files: KnownFiles::new(alloc, files),
+    };
+    match unmade_predicate(
+        alloc,
+        asking.script,
+        &names,
+        &mut script.readers,
+        &mut script.files,
+    ) {
+        Ok(None) => make_ready(alloc, names, ends, &mut script, opens, kept, out, err),
+        Ok(Some(name)) => refuse(alloc, &AskFault::NoPredicate(name), err),
+        Err(Memory) => refuse(alloc, &AskFault::Memory, err),
+    }
+}
+
+/// Makes ready what the asking needs, and asks and runs.
+fn make_ready<R: Rerun, H: Opens, F: Files, O: Sink, E: Sink>(
+    alloc: Global,
+    names: Vec<Text>,
+    ends: EndNames<'_>,
+    runs: &mut R,
+    opens: &mut H,
+    kept: &mut F,
+    out: &mut O,
+    err: &mut E,
+) -> u8 {
+    match prepare(alloc, names, ends, opens, kept) {
+        Ok(mut prepared) => obey(
+            alloc,
+            runs,
+            &mut prepared.known,
+            &mut prepared.channel,
+            out,
+            err,
+        ),
+        Err(why) => refuse(alloc, &AskFault::of(ends, why), err),
     }
 }
 
@@ -143,7 +183,7 @@ fn tell_stop<E: Sink>(stop: Stop, err: &mut E) -> u8
 }
 
 /// Puts the line of a fault before any run.
-fn refuse<E: Sink>(alloc: Global, fault: &AskFault, err: &mut E) -> u8
+fn refuse<E: Sink>(alloc: Global, fault: &AskFault<'_>, err: &mut E) -> u8
     ensures { Tells (ask_line fault.now ∷ []) (exit_status_of (ask_status fault.now)) result (E.state err.old) (E.state err.new) }
 {
     match fault.line(alloc) {

@@ -8,12 +8,12 @@
 
 mod command;
 mod fault;
-mod prepare;
 mod script;
 mod words;
 
-use rs_outside::OutSink;
-use rs_program::{command_line, exit_code, no_memory};
+use rs_outside::{DirFiles, OutSink};
+use rs_prepare::DirEnds;
+use rs_program::{ClosedStreams, command_line, exit_code, no_memory};
 use rs_value::Memory;
 use std::env;
 use std::hash::RandomState;
@@ -21,6 +21,8 @@ use std::process::ExitCode;
 
 fn main(rt: HostRuntime) -> ExitCode {
     let alloc = rt.alloc();
+    // Before any file is opened.
+    let _streams = ClosedStreams::hold(&rt);
     let mut out = OutSink::output(&rt);
     let mut err = OutSink::error(&rt);
     let Ok(hash_keys) = RandomState::new(&rt) else {
@@ -28,7 +30,13 @@ fn main(rt: HostRuntime) -> ExitCode {
     };
     match command_line(alloc, env::args(&rt)) {
         Ok(words) => ExitCode::from(command::command(
-            alloc, &rt, hash_keys, &words, &mut out, &mut err,
+            alloc,
+            &words,
+            &mut DirEnds::new(&rt),
+            &mut DirFiles::new(&rt, hash_keys),
+            DirFiles::new(&rt, hash_keys),
+            &mut out,
+            &mut err,
         )),
         Err(Memory) => exit_code(no_memory(&mut err)),
     }
