@@ -1,12 +1,14 @@
 //! The program `ranksql_ask`. It runs the words of `ranksql` over scores that are known, asks a process of the user's for each
 //! score that is missing, and runs them again.
 //!
-//! Its promise: each run is a run of rs_run over a lawful scorer, and rs_ask's promise of questions and rows is of these runs;
-//! the lines on standard error and the status are as defined for what they end with. That the files of the system are opened
-//! where the words say is only tested.
+//! Its promise: each run is a run of rs_run over a lawful scorer, which knows at first what the file of known scores holds, and
+//! rs_ask's promise of questions and rows is of these runs; nothing is run where the script makes no predicate of one of the names;
+//! and the lines on standard error and the status are as defined for what it ends with, each refusal with its cause. What the
+//! system does at an opening, a read and a write is only tested.
 #![tactic(auto)]
 
 mod command;
+mod ending;
 mod fault;
 mod script;
 mod words;
