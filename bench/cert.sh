@@ -3,7 +3,7 @@
 # There is a key for each hundred rows, and at last one key for all 8,192 rows, with up to 1,000,000 pairs.
 # Beside them, in the same run, sqlite3 reads the same files, joins them and sorts all pairs: that is what an answer costs that nobody
 # can check, and what it costs to make it anew. Where one key has 67 million pairs it is asked once, for the most pairs alone.
-# The certificate has to be the one that checks/feeds.py and checks/certificates.py write, the check has to say yes, and sqlite3 has to
+# The certificate has to be the one that checks/model/feeds.py and checks/model/certificates.py write, the check has to say yes, and sqlite3 has to
 # find the same pairs.
 # The time is processor time, the shortest of five runs, with starting the program and reading the files.
 # The program is the one that ./ranksql builds, or the one that the variable RANKSQL names.
@@ -27,7 +27,7 @@ import subprocess
 import sys
 
 sys.dont_write_bytecode = True
-sys.path.insert(0, "checks")
+sys.path.insert(0, "checks/model")
 import certificates
 import feeds
 

@@ -2,7 +2,7 @@
 # Measures `ranksql feed` on two ranked feeds of 1,000, 8,192 and 131,072 rows, for the first 1, 10, 100 and 1,000 pairs. Beside it,
 # in the same run, sqlite3 reads the same files, joins them and sorts all pairs. There is a key for each hundred rows, so with the most
 # rows there are 13 million pairs.
-# The pairs have to be the same, and the draws those that the definition of the join says: checks/feeds.py reckons them over the
+# The pairs have to be the same, and the draws those that the definition of the join says: checks/model/feeds.py reckons them over the
 # finished lists.
 # The time is processor time, the shortest of five runs. Starting the program and reading both files are part of it on both sides; the
 # time of ours with K = 0, which does no more than that, is told beside it.
@@ -27,7 +27,7 @@ import subprocess
 import sys
 
 sys.dont_write_bytecode = True
-sys.path.insert(0, "checks")
+sys.path.insert(0, "checks/model")
 import feeds
 
 program, folder, runs = sys.argv[1], sys.argv[2], int(sys.argv[3])

@@ -3,7 +3,7 @@
 
 usage: tools/manual.py >docs/ranksql.1
 
-checks/documents.py compares the page in docs with what this makes."""
+checks/gate/documents.py compares the page in docs with what this makes."""
 
 import os
 import re
