@@ -28,9 +28,13 @@ module _ {R S : Type 0} (f : R → S) (ran : R → Known → Pass → R → Line
   LearnsAll-map : (entries : List KnownScore) (old : R) (known : Known) (before : List ℕ) (new : R) (knows : Known) (put : List ℕ)
       → LearnsAll ran entries old known before new knows put → LearnsAll runs entries (f old) known before (f new) knows put
   LearnsAll-map [] old known before new knows put learned = (ap f learned.0, learned.1, learned.2)
-  LearnsAll-map (entry ∷ rest) old known before new knows put learned =
-      (f learned.0, learned.1, learned.2, LearnsOne-map entry old known before learned.0 learned.1 learned.2 learned.3,
-      LearnsAll-map rest learned.0 learned.1 learned.2 new knows put learned.4)
+  LearnsAll-map (entry ∷ rest) old known before new knows put learned = (
+    f learned.0,
+    learned.1,
+    learned.2,
+    LearnsOne-map entry old known before learned.0 learned.1 learned.2 learned.3,
+    LearnsAll-map rest learned.0 learned.1 learned.2 new knows put learned.4,
+  )
 
   RunsUpTo-map : (entries : List KnownScore) (pass : Pass) (put : List ℕ) (rows : Lines) (old : R) (known : Known) (new : R) (knows : Known)
       → RunsUpTo ran entries pass put rows old known new knows → RunsUpTo runs entries pass put rows (f old) known (f new) knows
@@ -86,7 +90,7 @@ module _ {R S : Type 0} (f : R → S) (ran : R → Known → Pass → R → Line
     last = stops.last;
     answered = stops.answered;
     stops = elim stops.stops [
-      inl inside ↦ inl (StopsInRun-map _ _ _ _ _ _ _ _ _ _ inside)
+      | inl inside ↦ inl (StopsInRun-map _ _ _ _ _ _ _ _ _ _ inside)
       | inr behind ↦ inr (StopsBehind-map _ _ _ _ _ _ _ _ _ _ behind)
     ];
   }

@@ -15,7 +15,7 @@ use Rattle.rs_ask.specs.declared.pass.Pass.{Pass}
 use Rattle.rs_ask.specs.declared.stop.Stop.{Stop}
 use Rattle.rs_prepare.specs.Preparing.{EndWords, Openings, Prepares}
 use Rattle.rs_prepare.specs.declared.fault.PrepareFault.{PrepareFault}
-use Rattle.rs_prepare.specs.declared.prepare.Prepared.{Prepared}
+use Rattle.rs_prepare.specs.declared.ready.Prepared.{Prepared}
 use Rattle.ranksql_ask.specs.AskFaults as fault
 use Rattle.ranksql_ask.specs.AskFaults.{Refusal, ask_line, ask_status, unready}
 use Rattle.ranksql_ask.specs.Lines.{end_lines, end_status, memory_line, stop_lines, stop_status}

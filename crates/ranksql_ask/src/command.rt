@@ -67,11 +67,15 @@ fn answer<H: Opens, F: Files, G: Files + Drop, O: Sink, E: Sink>(
     out: &mut O,
     err: &mut E,
 ) -> u8
-    ensures { Commands (openings H.questions_to H.answers_from H.scores_in H.refuses) (channel_state H.Questions.state H.Answers.state H.Scores.state) (Some (request_made request)) (known_state (G.state files)) result
+    ensures { Commands (openings H.questions_to H.answers_from H.scores_in H.refuses) (channel_state H.Questions.state H.Answers.state H.Scores.state) (Some (request_made request.entry)) (known_state (G.state files)) result
         (record { opens = opens.old; kept = F.state kept.old; out = O.state out.old; err = E.state err.old })
         (record { opens = opens.new; kept = F.state kept.new; out = O.state out.new; err = E.state err.new }) }
 {
-    let Request { names, ends, asking } = request;
+    let Request {
+        names,
+        ends,
+        asking,
+    } = request;
     let mut script = Script {
         asking,
         readers: Readers {
@@ -104,7 +108,7 @@ fn make_ready<R: Rerun, H: Opens, F: Files, O: Sink, E: Sink>(
     out: &mut O,
     err: &mut E,
 ) -> u8
-    ensures { Readies (openings H.questions_to H.answers_from H.scores_in H.refuses) (channel_state H.Questions.state H.Answers.state H.Scores.state) R.ran names.items (end_words ends) result runs.old runs.new
+    ensures { Readies (openings H.questions_to H.answers_from H.scores_in H.refuses) (channel_state H.Questions.state H.Answers.state H.Scores.state) R.ran names.items (end_words ends.entry) result runs.old runs.new
         (record { opens = opens.old; kept = F.state kept.old; out = O.state out.old; err = E.state err.old })
         (record { opens = opens.new; kept = F.state kept.new; out = O.state out.new; err = E.state err.new }) }
 {

@@ -33,7 +33,7 @@ pub enum AskFault<'a> {
 impl<'a> AskFault<'a> {
     /// The fault of what doesn't stand ready.
     pub fn of(ends: EndNames<'a>, why: PrepareFault) -> AskFault<'a>
-        ensures { refusal result ≡ unready (end_words ends) why }
+        ensures { refusal result ≡ unready (end_words ends.entry) why }
     {
         match why {
             PrepareFault::Unopened(end, why) => AskFault::of_unopened(ends, end, why),
@@ -45,7 +45,7 @@ impl<'a> AskFault<'a> {
 
     /// The fault of an end that isn't opened.
     fn of_unopened(ends: EndNames<'a>, end: End, why: OpenFault) -> AskFault<'a>
-        ensures { refusal result ≡ unopened (end_words ends) end why }
+        ensures { refusal result ≡ unopened (end_words ends.entry) end why }
     {
         match (why, end) {
             (OpenFault::Memory, _) => AskFault::Memory,

@@ -14,8 +14,8 @@ use Rattle.rs_prepare.specs.declared.fault.PrepareFault.TheVariants.{Unopened, U
 use Rattle.rs_prepare.specs.declared.open_fault.End.{End}
 use Rattle.rs_prepare.specs.declared.open_fault.End.TheVariants.{Answers, Questions, Scores}
 use Rattle.rs_prepare.specs.declared.open_fault.OpenFault.{OpenFault}
-use Rattle.rs_prepare.specs.declared.prepare.EndNames.{EndNames}
-use Rattle.rs_prepare.specs.declared.prepare.Prepared.{Prepared}
+use Rattle.rs_prepare.specs.declared.ready.EndNames.{EndNames}
+use Rattle.rs_prepare.specs.declared.ready.Prepared.{Prepared}
 
 -- the names of the three files
 pub record EndWords : Type 0 where

@@ -112,11 +112,7 @@ impl<'a> Opens for DirEnds<'a> {
 
     fn open_questions(&mut self, name: &Text) -> Result<Questions<File>, OpenFault> {
         let held = self.held(name);
-        let file = opened(
-            OpenOptions::new()
-                .append(true)
-                .open(self.rt, name.as_str()),
-        )?;
+        let file = opened(OpenOptions::new().append(true).open(self.rt, name.as_str()))?;
         let node = node_of(file.metadata());
         self.seen.refuse(node)?;
         self.seen.questions = node;
@@ -124,11 +120,7 @@ impl<'a> Opens for DirEnds<'a> {
     }
 
     fn open_answers(&mut self, name: &Text) -> Result<ReadAnswers<File>, OpenFault> {
-        let file = opened(
-            OpenOptions::new()
-                .read(true)
-                .open(self.rt, name.as_str()),
-        )?;
+        let file = opened(OpenOptions::new().read(true).open(self.rt, name.as_str()))?;
         let node = node_of(file.metadata());
         self.seen.refuse(node)?;
         Ok(ReadAnswers::new(file))

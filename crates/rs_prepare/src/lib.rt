@@ -9,13 +9,13 @@ mod fault;
 mod node;
 mod open_fault;
 mod opens;
-mod prepare;
 mod questions;
+mod ready;
 mod seen;
 
 pub use dir_ends::DirEnds;
 pub use fault::PrepareFault;
 pub use open_fault::{End, OpenFault, Stream};
 pub use opens::Opens;
-pub use prepare::{EndNames, Prepared, prepare};
 pub use questions::Questions;
+pub use ready::{EndNames, Prepared, prepare};

@@ -52,9 +52,7 @@ fn none_but<'a>(fault: Fault) -> Result<Option<&'a Text>, Memory>
 fn unmade_in<'a>(names: &'a [Text], statements: &[Statement]) -> Option<&'a Text>
     ensures { option_map (λ name. name.now) result ≡ unmade_in names.now (commands_of statements.now) }
 {
-    names
-        .iter()
-        .find(|name| !has_predicate(name, statements))
+    names.iter().find(|name| !has_predicate(name, statements))
 }
 
 /// Whether the statements make a predicate of this name.
