@@ -190,7 +190,7 @@ def try_full(folder, wanted):
     check("        each answer is kept", kept_in(folder) == ([(*q, str(true_score(int(q[1])))) for q in got[3]], True), got)
     fresh(folder, "0")
     got = ask(folder, questions="/dev/full")
-    check("QUESTIONS on a full disk", got[0] == 8 and got[2].startswith("probe: near: write\n") and got[3] == [], got)
+    check("QUESTIONS on a full disk", got[0] == 8 and got[2].startswith("probe: near: closed\n") and got[3] == [], got)
     for room in (0, 3, 30):
         fresh(folder, "0")
         got = ask(folder, **with_room(room, restore_signals=False))

@@ -10,7 +10,7 @@ A document's indented blocks are looked at one after another:
 - a block of statements has to be of the language, whatever else is wrong with it.
 The file behind the words `The file` in front of a command is what that command reads. Each script of examples/ says in a comment
 which commands its file of output comes from. The rows of the tables that have a script and what is told are run too. The manual
-page docs/ranksql.1 has to be what tools/manual.py makes.
+pages docs/ranksql.1 and docs/ranksql_ask.1 have to be what tools/manual.py makes.
 
 It prints a line for each thing that it looked at, and ends with 1 where one fails. The program is crates/ranksql/out/ranksql, or the
 one that the variable RANKSQL names."""
@@ -243,11 +243,12 @@ def examples(folder):
 
 
 def manual():
-    made = subprocess.run([sys.executable, os.path.join(ROOT, "tools", "manual.py")], capture_output=True)
-    with open(os.path.join(ROOT, "docs", "ranksql.1"), "rb") as file:
-        is_same = file.read() == made.stdout
-    tell(made.returncode == 0 and is_same, "docs/ranksql.1 is what tools/manual.py makes",
-         made.stderr.decode() or "make it anew: tools/manual.py >docs/ranksql.1")
+    for words, name in (([], "docs/ranksql.1"), (["ask"], "docs/ranksql_ask.1")):
+        made = subprocess.run([sys.executable, os.path.join(ROOT, "tools", "manual.py"), *words], capture_output=True)
+        with open(os.path.join(ROOT, name), "rb") as file:
+            is_same = file.read() == made.stdout
+        tell(made.returncode == 0 and is_same, f"{name} is what tools/manual.py makes",
+             made.stderr.decode() or f"make it anew: {' '.join(['tools/manual.py', *words])} >{name}")
 
 
 def main():

@@ -36,7 +36,7 @@ out_of_range_line question most number = codes "score: " ++ signed_decimal numbe
 
 -- the line of a question that has no answer
 abbrev pub unanswered_line : List (List ℕ) → ℕ → NoAnswer → List ℕ
-unanswered_line question most Unasked = probe_line question (codes "write")
+unanswered_line question most Unasked = probe_line question (codes "closed")
 unanswered_line question most Unread = probe_line question (codes "read")
 unanswered_line question most Ended = probe_line question (codes "closed")
 unanswered_line question most TooLong = probe_line question (codes "more than 64 bytes")

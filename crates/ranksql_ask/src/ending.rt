@@ -54,9 +54,8 @@ fn unanswered_line(
     ensures { IfOk result (λ line. line.items ≡ unanswered_line question.now most why.now) }
 {
     match why {
-        NoAnswer::Unasked => probe_line(alloc, question, b"write"),
+        NoAnswer::Unasked | NoAnswer::Ended => probe_line(alloc, question, b"closed"),
         NoAnswer::Unread => probe_line(alloc, question, b"read"),
-        NoAnswer::Ended => probe_line(alloc, question, b"closed"),
         NoAnswer::TooLong => probe_line(alloc, question, b"more than 64 bytes"),
         NoAnswer::NotNumber(line) => probe_line(alloc, question, &no_number(alloc, line.bytes())?),
         NoAnswer::OutOfRange(number) => out_of_range_line(alloc, question, most, *number),
