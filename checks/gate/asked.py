@@ -104,8 +104,8 @@ def try_answers(folder, wanted):
         for words in (["plain", "s.sql"], ["run", "s.sql", "1"]):
             fresh(folder, "0")
             got = run(folder, words, nth(3, piece))
-            line = line.format(question=asked_outside.record_of(got[3][-1]))
-            check(f"{name}: {words[0]}", got[0] == status and got[2].startswith(line) and len(got[3]) == 3, (got, line))
+            told = line.format(question=asked_outside.record_of(got[3][-1]))
+            check(f"{name}: {words[0]}", got[0] == status and got[2].startswith(told) and len(got[3]) == 3, (got, told))
             check("        the answers so far are kept, and this one isn't", len((folder / "scores.csv").read_text().splitlines()) == 2)
             again = run(folder, words, with_true)
             check("        and the next start asks for it first", again[:2] == (0, wanted) and again[3][0] == got[3][-1], again)

@@ -57,8 +57,11 @@ class Answerer:
             for record in csv.reader(source):
                 self.questions.append(tuple(record))
                 pieces = self.answer(record)
-                for piece in pieces if isinstance(pieces, list) else [pieces]:
-                    sink.write(piece)
+                try:
+                    for piece in pieces if isinstance(pieces, list) else [pieces]:
+                        sink.write(piece)
+                except BrokenPipeError:
+                    return
                 if isinstance(pieces, Last):
                     return
 

@@ -71,9 +71,6 @@ module _ {R S : Type 0} (f : R → S) (ran : R → Known → Pass → R → Line
     put = stops.put;
     rows = stops.rows;
     runs = RunsUpTo-map _ _ _ _ _ _ _ _ stops.runs;
-    middle = stops.middle;
-    puts = stops.puts;
-    keeps = stops.keeps;
     stops = stops.stops;
     same = stops.same;
   }

@@ -83,7 +83,7 @@ pub record AsksBy {H Q A K R : Type 0} (outside : Openings H Q A K) (state : Cha
 -- something did not stand ready, which was told
 pub record IsUnready {H Q A K : Type 0} (outside : Openings H Q A K) (names : List (List ℕ)) (ends : EndWords) (answer : ℕ) (old new : Work H) : Type 0 where
   pub fault : PrepareFault
-  pub unready : Prepares outside names ends (Err fault) old.kept new.kept
+  pub prepares : Prepares outside names ends (Err fault) old.kept new.kept
   pub refuses : Refuses (unready ends fault) answer old.out new.out old.err new.err
 
 -- all was made ready, and asked and ran; or something did not stand ready

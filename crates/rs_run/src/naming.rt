@@ -1,4 +1,4 @@
-ghost use Rattle.std.specs.Prelude.{◌≡◌, ◌≢◌, ◌↔◌, IfOk, IsTrue, option_map};
+ghost use Rattle.std.specs.Prelude.{◌≡◌, ◌≢◌, IfOk, None, option_map};
 ghost use Rattle.rs_events.specs.Events.{finds_in};
 ghost use Rattle.rs_syntax.specs.Syntax.{command_of, commands_of};
 ghost use Rattle.rs_run.specs.Naming.{Looks, has_predicate, makes_predicate, unmade_in};
@@ -40,7 +40,7 @@ pub fn unmade_predicate<'a, T, F: Files>(
 
 /// No name, but where there is no memory.
 fn none_but<'a>(fault: Fault) -> Result<Option<&'a Text>, Memory>
-    ensures { IfOk result (λ name. (name ≡ Option.None) × (fault ≢ Fault.Memory)) }
+    ensures { IfOk result (λ name. (name ≡ None) × (fault ≢ Fault.Memory)) }
 {
     match &fault {
         Fault::Memory => Err(Memory),
@@ -59,9 +59,10 @@ fn unmade_in<'a>(names: &'a [Text], statements: &[Statement]) -> Option<&'a Text
 fn has_predicate(name: &Text, statements: &[Statement]) -> bool
     ensures { result ≡ has_predicate name.now (commands_of statements.now) }
 {
-    statements
-        .iter()
-        .any(|statement| makes_predicate(name, statement))
+    match statements {
+        [] => false,
+        [first, rest @ ..] => makes_predicate(name, first) || has_predicate(name, rest),
+    }
 }
 
 /// Whether a statement makes a predicate of this name.
