@@ -76,22 +76,20 @@ fn answer<H: Opens, F: Files, G: Files + Drop, O: Sink, E: Sink>(
         ends,
         asking,
     } = request;
-    let mut script = Script {
-        asking,
-        readers: Readers {
-            script: KnownScript::new(),
-            tables: KnownTables::new(alloc),
-        },
-        files: KnownFiles::new(alloc, files),
+    let mut readers = Readers {
+        script: KnownScript::new(),
+        tables: KnownTables::new(alloc),
     };
-    match unmade_predicate(
-        alloc,
-        asking.script,
-        &names,
-        &mut script.readers,
-        &mut script.files,
-    ) {
-        Ok(None) => make_ready(alloc, names, ends, &mut script, opens, kept, out, err),
+    let mut files = KnownFiles::new(alloc, files);
+    match unmade_predicate(alloc, asking.script, &names, &mut readers, &mut files) {
+        Ok(None) => {
+            let mut script = Script {
+                asking,
+                readers,
+                files,
+            };
+            make_ready(alloc, names, ends, &mut script, opens, kept, out, err)
+        }
         Ok(Some(name)) => (refuse(alloc, &AskFault::NoPredicate(name), err), out),
         Err(Memory) => (refuse(alloc, &AskFault::Memory, err), out),
     }
@@ -141,11 +139,10 @@ fn obey<R: Rerun, Q: Sink, A: Answers, K: Sink, O: Sink, E: Sink>(
 {
     let before = known.len();
     let (ended, out) = ask_and_run(alloc, runs, known, channel, out);
-    let status = match ended {
-        Ok(asked) => tell_end(alloc, &asked, before, err),
-        Err(stop) => tell_stop(&stop, err),
-    };
-    (status, out)
+    match ended {
+        Ok(asked) => (tell_end(alloc, &asked, before, err), out),
+        Err(stop) => (tell_stop(&stop, err), out),
+    }
 }
 
 /// Puts the line of how the last run ended, and the line with the counts.
