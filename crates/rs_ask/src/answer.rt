@@ -1,4 +1,4 @@
-ghost use Rattle.std.specs.Prelude.{◌≡◌, ◌≤◌, length, take};
+ghost use Rattle.std.specs.Prelude.{◌≡◌, ◌≤◌, take};
 ghost use Rattle.rs_value.specs.Outside.{Keeps};
 ghost use Rattle.rs_ask.specs.Answers.{ReadsNext, answer_in, line_answer, without_blanks};
 
@@ -44,7 +44,7 @@ pub fn read_answer<A: Answers>(answers: &mut A) -> Result<i64, NoAnswer>
 /// The number of the first bytes of these, or their line.
 fn line_answer(line: [u8; MOST_ANSWER], len: usize) -> Result<i64, NoAnswer>
     requires { len ≤ 64 }
-    ensures { result ≡ line_answer (take len line.entry) }
+    ensures { result ≡ line_answer (take len line) }
 {
     match answer_in(&line[..len]) {
         Some(number) => Ok(number),
