@@ -1,5 +1,5 @@
 -- Answers, one after another.
-use Rattle.std.proofs.Common.{◌≡◌, ◌≤◌, ◌∙◌, ℕ, ℤ, ◌+◌, Bool, true, false, arith, cond, List, [], ◌∷◌, ◌++◌, length, length-append, min, Ok, Err, Result, Option, Some, None, ap, append-nil, append_assoc, eqb, ltb, not, refl, subst, sym, take, ◌||◌}
+use Rattle.std.proofs.Common.{◌≡◌, ◌≤◌, ◌∙◌, ℕ, ℤ, ◌+◌, Bool, true, false, arith, cond, List, [], ◌∷◌, ◌++◌, length, length-append, min, Ok, Err, Result, Option, Some, None, ap, append-nil, append_assoc, eqb, ltb, not, refl, subst, sym, take, ◌&&◌, ◌||◌}
 use Rattle.std.specs.Io.KnownBytes.{Consumes, IsAtEnd}
 use Rattle.std.specs.List.{list_all, list_any}
 use Rattle.rs_value.specs.Outside.{Outside}
@@ -47,16 +47,12 @@ without_return-push (first ∷ next ∷ rest) byte =
 
 -- all bytes of a line are blank, and one more
 blank-push : (line : List ℕ) (byte : ℕ) (blank : Bool) → is_blank byte ≡ blank → list_all is_blank (line ++ byte ∷ []) ≡ cond blank (list_all is_blank line) false
-blank-push [] byte blank is =
-    (elim blank as (λ b. is_blank byte ≡ b → list_all is_blank (byte ∷ []) ≡ cond b true false) [
-      | true ↦ λ e. ap (λ b. cond b true false) e
-      | false ↦ λ e. ap (λ b. cond b true false) e
-    ]) is
+blank-push [] byte blank is = ap (λ b. b && true) is ∙ (elim blank as (λ b. b && true ≡ cond b true false) [ true ↦ refl | false ↦ refl ])
 blank-push (first ∷ rest) byte blank is =
-    ap (λ b. cond (is_blank first) b false) (blank-push rest byte blank is)
-    ∙ (elim blank as (λ b. cond (is_blank first) (cond b (list_all is_blank rest) false) false ≡ cond b (cond (is_blank first) (list_all is_blank rest) false) false) [
+    ap (λ b. is_blank first && b) (blank-push rest byte blank is)
+    ∙ (elim blank as (λ b. is_blank first && cond b (list_all is_blank rest) false ≡ cond b (is_blank first && list_all is_blank rest) false) [
       | true ↦ refl
-      | false ↦ (elim (is_blank first) as (λ b. cond b false false ≡ false) [ true ↦ refl | false ↦ refl ])
+      | false ↦ (elim (is_blank first) as (λ b. b && false ≡ false) [ true ↦ refl | false ↦ refl ])
     ])
 
 -- a blank at a line's end is taken away, and every other byte stays there

@@ -219,7 +219,7 @@ GivesAnswer-read question most read answer asked asks answers left is reads put 
     subst (λ (a : Result ℤ NoAnswer). GivesAnswer question most a asked asks answers left) (sym is) (go read reads) where
       scored : (number : ℤ) (fits : Bool) → is_score most number ≡ fits → ReadsAnswer (Ok number) answers.told left.told → GivesAnswer question most (cond fits (Ok number) (Err (OutOfRange number))) asked asks answers left
       scored number true fits reads = (put, fits, reads)
-      scored number false fits reads = (put, fits, reads)
+      scored number false fits reads = (put, (fits, reads))
       go : (read : Result ℤ NoAnswer) → ReadsNext read answers left → GivesAnswer question most (score_in most read) asked asks answers left
       go (Ok number) reads = scored number (is_score most number) refl reads
       go (Err Unasked) reads = absurd reads

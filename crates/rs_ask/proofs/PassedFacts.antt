@@ -9,8 +9,11 @@ use Rattle.rs_value.proofs.OutsideFacts.{Faulted-from, Keeps-refl, Keeps-then}
 use Rattle.rs_outside.specs.Sink.{IsPrefix, Puts}
 use Rattle.rs_outside.specs.declared.sink.SinkFault.{SinkFault}
 use Rattle.rs_outside.specs.declared.sink.SinkFault.TheVariants as sink
-use Rattle.rs_ask.specs.PutRows.{AreApart, IsRefused, Passed, PassedAll, PassedBy, PutRowsState, StoppedIn, after_refusal, no_rows, rows_again, rows_state}
-use Rattle.rs_ask.specs.Putting.{PutsBytes}
+use Rattle.rs_ask.specs.PutRows.{AreApart, IsOfRun, IsRefused, Passed, PassedAll, PassedBy, PutRowsState, StoppedIn, after_refusal, no_rows, rows_again, rows_state}
+use Rattle.rs_ask.specs.Putting.{PutsBytes, all_put}
+use Rattle.rs_ask.specs.Running.{RunsWhole}
+use Rattle.rs_ask.specs.declared.pass.Pass.{Pass}
+use Rattle.rs_scores.specs.Known.{Known}
 use Rattle.rs_ask.specs.Stops.{DoesDiffer, StopsAt, differs_as}
 use Rattle.rs_ask.specs.declared.row_fault.RowFault.{RowFault}
 use Rattle.rs_ask.specs.declared.row_fault.RowFault.TheVariants.{Differs, Failed, Memory}
@@ -274,3 +277,21 @@ pub StopsAt-apart : (lacked : Bool) (began now : Pieces) (rows : PutRowsState) �
 StopsAt-apart lacked began now rows is passed =
     let by : PassedBy (Some Differs) began now rows = by_fault (Some Differs) began now rows is passed in
     StopsAt-differs lacked rows.shown (rows_state rows) began now (rows.pieces ++ rows.refused, refl, by.1.0, inr by.1.1) by.2
+
+-- a run whose rows are all put
+pub RunsWhole-put : {R : Type 0} (ran : R → Known → Pass → R → Pieces → Pieces → Type 0) (pass : Pass) (old : R) (known : Known) (new : R) (shown before : List ℕ) (rows : PutRowsState) (began now : Pieces)
+    → IsOfRun shown began now rows → shown ≡ before → (rows.fault ≡ None) × (rows.refused ≡ []) × (rows.bytes ≡ concat rows.pieces) → ran old known pass new (all_put []) (rows_state rows)
+    → RunsWhole ran pass old known new before rows.bytes began now
+RunsWhole-put ran pass old known new shown before rows began now of is whole did =
+    let all : PassedAll began now rows = by_fault None began now rows whole.0 of.passed in
+    let told : rows_state rows ≡ all_put rows.pieces =
+    ap (λ (put : List (List ℕ)). let state : Pieces = record { told = Some put; faults = rows.faults; steady = false } in state) (ap (λ refused. rows.pieces ++ refused) whole.1 ∙ append-nil rows.pieces)
+    ∙ ap (λ (n : ℕ). let state : Pieces = record { told = Some rows.pieces; faults = n; steady = false } in state) all.none_failed in
+    record {
+      pieces = rows.pieces;
+      did = subst (λ (state : Pieces). ran old known pass new (all_put []) state) told did;
+      are = sym whole.2;
+      fresh = all.fresh;
+      goes = all.is ∙ ap (λ first. first ++ all.fresh) (of.shown_is ∙ is);
+      puts = all.puts;
+    }

@@ -1,6 +1,6 @@
 ghost use Rattle.std.specs.Prelude.{◌≡◌, ◌≤◌, take};
 ghost use Rattle.rs_value.specs.Outside.{Keeps};
-ghost use Rattle.rs_ask.specs.Answers.{ReadsNext, answer_in, line_answer, without_blanks};
+ghost use Rattle.rs_ask.specs.Answers.{ReadsNext, answer_in, is_blank, line_answer, without_blanks};
 
 use crate::answer_line::AnswerLine;
 use crate::answers::Answers;
@@ -66,8 +66,21 @@ fn answer_in(line: &[u8]) -> Option<i64>
 fn without_blanks(line: &[u8]) -> &[u8]
     ensures { result.now ≡ without_blanks line.now }
 {
-    match line {
-        [rest @ .., b' ' | b'\t'] => without_blanks(rest),
-        _ => line,
+    match line.split_last() {
+        Some((last, rest)) => {
+            if is_blank(*last) {
+                without_blanks(rest)
+            } else {
+                line
+            }
+        }
+        None => line,
     }
+}
+
+/// Whether a byte is a space or a tab.
+fn is_blank(byte: u8) -> bool
+    ensures { result ≡ is_blank byte }
+{
+    byte == b' ' || byte == b'\t'
 }
