@@ -58,7 +58,7 @@ module _ {R : Type 0} (ran : R → Known → Pass → R → Outside (List (List 
     knows,
     bytes,
     subst (λ (m : R). LearnsOne ran entry m known before new knows bytes) learned.0
-    (subst (λ (k : Known). LearnsOne ran entry middle k before new knows bytes) learned.1 (subst (λ (p : List ℕ). LearnsOne ran entry middle some p new knows bytes) learned.2 last)),
+        (subst (λ (k : Known). LearnsOne ran entry middle k before new knows bytes) learned.1 (subst (λ (p : List ℕ). LearnsOne ran entry middle some p new knows bytes) learned.2 last)),
     (refl, refl, refl),
   )
   LearnsAll-more (first ∷ rest) entry old known before middle some put new knows bytes learned last =
@@ -206,6 +206,7 @@ pub AskStops-kept : (missing : Option (List (List ℕ))) (most : ℕ) (entry : K
 AskStops-kept missing most entry why known new before after is same score asked read kept = record { same = same; stops = go why kept } where
   reads : (line : List ℕ) → line ≡ known_line entry → ReadsScore missing most line before after
   reads line is_line = record { entry = entry; is = is; is_line = is_line; is_score = score; asked = asked; read = read }
+
   go : (stop : Stop) → KeepStops stop (known_line entry) before.scores after.scores → StopsAsking missing most stop before after
   go Differs kept = absurd kept
   go Write kept = absurd kept
@@ -220,6 +221,7 @@ GivesAnswer-read question most read answer asked asks answers left is reads put 
       scored : (number : ℤ) (fits : Bool) → is_score most number ≡ fits → ReadsAnswer (Ok number) answers.told left.told → GivesAnswer question most (cond fits (Ok number) (Err (OutOfRange number))) asked asks answers left
       scored number true fits reads = (put, fits, reads)
       scored number false fits reads = (put, (fits, reads))
+
       go : (read : Result ℤ NoAnswer) → ReadsNext read answers left → GivesAnswer question most (score_in most read) asked asks answers left
       go (Ok number) reads = scored number (is_score most number) refl reads
       go (Err Unasked) reads = absurd reads

@@ -91,6 +91,7 @@ differs-by : (began now : Pieces) (rows : PutRowsState) (piece rest : List ℕ) 
 differs-by began now rows piece rest none goes apart all = go all.new where
   whole : concat (rows.pieces ++ (rows.refused ++ piece ∷ [])) ≡ concat rows.pieces ++ piece
   whole = ap (λ refused. concat (rows.pieces ++ (refused ++ piece ∷ []))) none ∙ concat-push rows.pieces piece
+
   go : (all.fresh ≡ []) ⊎ (concat rows.pieces ≡ rows.bytes) → PassedBy (Some Differs) began now (after_refusal piece Differs rows)
   go (inl empty) =
       let shown : rows.bytes ≡ rows.shown = all.is ∙ ap (λ fresh. rows.shown ++ fresh) empty ∙ append-nil rows.shown in
@@ -168,17 +169,21 @@ Passed-within began now rows next piece new rest is goes part empty same passed 
     subst (λ (r : PutRowsState). Passed began now r) (sym same) (record { keeps = passed.keeps; is = subst (λ (f : Option RowFault). PassedBy f began now (added piece new rows)) (sym is) all_by }) where
       all : PassedAll began now rows
       all = by_fault None began now rows is passed
+
       bytes : rows.bytes ++ new ≡ rows.bytes
       bytes = ap (λ more. rows.bytes ++ more) empty ∙ append-nil rows.bytes
+
       is_empty : IsNew rest piece new → rest ≡ [] → piece ≡ []
       is_empty (inl (p, e)) none = none_of piece p.rest (sym none ∙ p.split) where
         none_of : (xs ys : List ℕ) → [] ≡ xs ++ ys → xs ≡ []
         none_of [] ys e = refl
         none_of (x ∷ xs) ys e = cc
       is_empty (inr e) none = e ∙ ap (λ before. before ++ new) none ∙ empty
+
       still : (all.fresh ≡ []) ⊎ (concat rows.pieces ≡ rows.bytes) → (all.fresh ≡ []) ⊎ (concat (rows.pieces ++ piece ∷ []) ≡ rows.bytes ++ new)
       still (inl none) = inl none
       still (inr whole) = inr (concat-push rows.pieces piece ∙ ap (λ last. concat rows.pieces ++ last) (is_empty part (cancel-none (concat rows.pieces) rest (whole ∙ goes))) ∙ append-nil (concat rows.pieces) ∙ whole ∙ sym bytes)
+
       all_by : PassedAll began now (added piece new rows)
       all_by = record {
         none_failed = all.none_failed;
@@ -256,6 +261,7 @@ pub StopsAt-less : (lacked : Bool) (began now : Pieces) (rows : PutRowsState) (r
 StopsAt-less lacked began now rows rest is none goes some passed = go all.new where
   all : PassedAll began now rows
   all = by_fault None began now rows is passed
+
   go : (all.fresh ≡ []) ⊎ (concat rows.pieces ≡ rows.bytes) → StopsAt (differs_as lacked) lacked rows.shown (rows_state rows) began now
   go (inr whole) = absurd (some (cancel-none (concat rows.pieces) rest (whole ∙ goes)))
   go (inl empty) =

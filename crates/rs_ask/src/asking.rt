@@ -65,8 +65,13 @@ fn ask_all<R: Rerun, Q: Sink, A: Answers, K: Sink, O: Sink, B: Began>(
 {
     let before = known.len();
     let mut answers = 0;
-    let (first, mut rows, mut out) =
-        run_once::<R, O, Brand>(alloc, runs, known, PutRows::new(alloc), out);
+    let (first, mut rows, mut out) = run_once::<R, O, Brand>(
+        alloc,
+        runs,
+        known,
+        PutRows::new(alloc),
+        out,
+    );
     let mut pass = match first {
         Ok(pass) => pass,
         Err(stop) => return (Err(stop), out),
@@ -83,8 +88,7 @@ fn ask_all<R: Rerun, Q: Sink, A: Answers, K: Sink, O: Sink, B: Began>(
         }
         answers = known.len() - before;
         drop(pass);
-        let (next, next_rows, next_out) =
-            run_once::<R, O, Brand>(alloc, runs, known, rows, out);
+        let (next, next_rows, next_out) = run_once::<R, O, Brand>(alloc, runs, known, rows, out);
         rows = next_rows;
         out = next_out;
         match next {
