@@ -66,7 +66,7 @@ within-add lengths bytes piece new within goes =
 pub held-add : (before : ℕ) (bytes all : List ℕ) (lengths more : List ℕ) (refused : List (List ℕ)) (fault : Option RowFault) (faults : ℕ) (piece new : List ℕ)
     → all ≡ bytes ++ new → more ≡ lengths ++ length piece ∷ [] → before ≤ length bytes → total lengths ≤ length bytes → IsPrefix (concat (pieces_of lengths bytes) ++ piece) (bytes ++ new)
     → ◌≡◌ {A = PutRowsState} (record { shown = take before all; bytes = all; pieces = pieces_of more all; refused = refused; fault = fault; faults = faults })
-      (record { shown = take before bytes; bytes = bytes ++ new; pieces = pieces_of lengths bytes ++ piece ∷ []; refused = refused; fault = fault; faults = faults })
+    (record { shown = take before bytes; bytes = bytes ++ new; pieces = pieces_of lengths bytes ++ piece ∷ []; refused = refused; fault = fault; faults = faults })
 held-add before bytes all lengths more refused fault faults piece new is are known within goes =
     let seen : List ℕ → List ℕ → List (List ℕ) → PutRowsState = λ shown bytes pieces. record { shown = shown; bytes = bytes; pieces = pieces; refused = refused; fault = fault; faults = faults } in
     ap (λ all. seen (take before all) all (pieces_of more all)) is
