@@ -16,18 +16,9 @@ import tempfile
 import threading
 import time
 
-ROOT = pathlib.Path(__file__).resolve().parent.parent.parent
-ASK = os.environ.get("RANKSQL_ASK", str(ROOT / "crates/ranksql_ask/out/ranksql_ask"))
-PLAIN = os.environ.get("RANKSQL", str(ROOT / "crates/ranksql/out/ranksql"))
-
-ROWS = [(n, f"row {n}" if n % 3 else f'a "{n}", b', (n * 37) % 101) for n in range(1, 61)]
-
-SCRIPT = """CREATE TABLE t (n INT, name TEXT, v INT) FROM 't.csv';
-CREATE PREDICATE cheap (v INT) MAX 100 AS v;
-CREATE PREDICATE near (n INT, name TEXT) MAX 60 COST 1000 AS {formula};
-CREATE RANK INDEX by_v ON t (cheap(v));
-SELECT n, name FROM t ORDER BY 2 * cheap(v) + near(n, name) LIMIT 5;
-"""
+import asked_outside
+from asked_runs import (ASK, PLAIN, ROOT, ROWS, TRUE, USAGE, Answerer, Last, check, failures, fresh, run, true_score,
+    wanted_rows, with_true)
 
 # An index that is asked for, and rows that join it. The last one has the arguments of a row of the file.
 GROWING = """CREATE TABLE t (n INT, name TEXT, v INT) FROM 't.csv';
@@ -41,82 +32,7 @@ FETCH 3 FROM k;
 SELECT n, name FROM t ORDER BY 2 * cheap(v) + near(n, name) LIMIT 5;
 """
 
-TRUE = "MAX(0, 60 - ABS(n - 23))"
 GUESSES = {"the truth": TRUE, "nothing": "0", "the most": "60", "the opposite": "MIN(60, ABS(n - 23))", "too much": "1000 - n"}
-
-USAGE = "usage: ranksql_ask NAMES SCORES QUESTIONS ANSWERS run SCRIPT SEED, or plain SCRIPT behind ANSWERS\n"
-
-failures = 0
-
-
-def check(name, holds, said=""):
-    global failures
-    print(f"{'ok     ' if holds else 'FAILED '} {name}")
-    if not holds:
-        failures += 1
-        print(f"        {said}")
-
-
-def true_score(n):
-    return max(0, 60 - abs(n - 23))
-
-
-class Last(bytes):
-    """What is written before the pipe is closed."""
-
-
-class Answerer:
-    """Answers questions over two pipes. `answer` gives what is written for a question: one piece or several."""
-
-    def __init__(self, answer):
-        self.answer = answer
-        self.questions = []
-
-    def serve(self, source_fd, sink_fd):
-        with os.fdopen(source_fd, newline="", encoding="utf-8") as source, os.fdopen(sink_fd, "wb", buffering=0) as sink:
-            for record in csv.reader(source):
-                self.questions.append(tuple(record))
-                pieces = self.answer(record)
-                for piece in pieces if isinstance(pieces, list) else [pieces]:
-                    sink.write(piece)
-                if isinstance(pieces, Last):
-                    return
-
-
-def run(folder, words, answer, names="near"):
-    """The status, the output, the error and the questions of a run."""
-    asked_here, asked_there = os.pipe()
-    told_there, told_here = os.pipe()
-    answerer = Answerer(answer)
-    thread = threading.Thread(target=answerer.serve, args=(asked_here, told_here))
-    process = subprocess.Popen(
-        [ASK, names, "scores.csv", f"/dev/fd/{asked_there}", f"/dev/fd/{told_there}", *words],
-        cwd=folder, pass_fds=(asked_there, told_there), stdout=subprocess.PIPE, stderr=subprocess.PIPE)
-    os.close(asked_there)
-    os.close(told_there)
-    thread.start()
-    out, err = process.communicate(timeout=100)
-    thread.join()
-    return process.returncode, out.decode(), err.decode(), answerer.questions
-
-
-def with_true(record):
-    return f"{true_score(int(record[1]))}\n".encode()
-
-
-def fresh(folder, formula, script=SCRIPT, index=""):
-    (folder / "scores.csv").unlink(missing_ok=True)
-    (folder / "s.sql").write_text(script.format(formula=formula, index=index))
-    with open(folder / "t.csv", "w", newline="", encoding="utf-8") as table:
-        writer = csv.writer(table, lineterminator="\n")
-        writer.writerow(["n", "name", "v"])
-        writer.writerows(ROWS)
-
-
-def wanted_rows(folder, *script):
-    fresh(folder, TRUE, *script)
-    done = subprocess.run([PLAIN, "plain", "s.sql"], cwd=folder, capture_output=True, check=True, timeout=60)
-    return done.stdout.decode()
 
 
 def try_guesses(folder, wanted):
@@ -150,7 +66,7 @@ def try_growing(folder):
         check("        a second start asks for nothing", first[:2] == again[:2] and again[3] == [], again)
     fresh(folder, "0", GROWING, "CREATE RANK INDEX by_near ON t (near(n, name));")
     got = run(folder, ["run", "s.sql", "1"], lambda record: b"61\n" if record[1] == "61" else with_true(record))
-    check("a bad score of a row that joins", got[0] == 7 and got[2].startswith("score: near rows 62: 61 is not in 0..60\n"), got)
+    check("a bad score of a row that joins", got[0] == 7 and got[2].startswith("score: 61 is not in 0..60: near,61,\"it's, new\"\n"), got)
 
 
 def try_missing(folder, wanted):
@@ -175,27 +91,30 @@ def try_answers(folder, wanted):
         return answer
 
     for name, piece, status, line in [
-        ("the answers end", Last(b""), 8, "probe: near\n"),
-        ("the last answer isn't ended", Last(b"17"), 8, "probe: near\n"),
-        ("an empty answer", b"\n", 8, "probe: near\n"),
-        ("no number", b"seven\n", 8, "probe: near\n"),
-        ("a number with a fraction", b"7.5\n", 8, "probe: near\n"),
-        ("a line that is too long", b"0" * 65 + b"\n", 8, "probe: near\n"),
-        ("a score above the greatest", b"61\n", 7, "is not in 0..60\n"),
-        ("a score below 0", b"-1\n", 7, "is not in 0..60\n"),
+        ("the answers end", Last(b""), 8, "probe: near: closed\n"),
+        ("the last answer isn't ended", Last(b"17"), 8, "probe: near: closed\n"),
+        ("an empty answer", b"\n", 8, 'probe: near: "" is no whole number\n'),
+        ("no number", b"seven\n", 8, 'probe: near: "seven" is no whole number\n'),
+        ("a number with a fraction", b"50.0\n", 8, 'probe: near: "50.0" is no whole number\n'),
+        ("a blank before a number", b" 7\n", 8, 'probe: near: " 7" is no whole number\n'),
+        ("a line that is too long", b"0" * 65 + b"\n", 8, "probe: near: more than 64 bytes\n"),
+        ("a score above the greatest", b"61\n", 7, "score: 61 is not in 0..60: {question}"),
+        ("a score below 0", b"-1\n", 7, "score: -1 is not in 0..60: {question}"),
     ]:
-        fresh(folder, "0")
-        # A bad score of a sample is no fault, so these cases are `plain`, which takes no sample.
-        words = ["plain", "s.sql"] if status == 7 else ["run", "s.sql", "1"]
-        got = run(folder, words, nth(3, piece))
-        check(name, got[0] == status and line in got[2], got)
-        check("        the answers so far are kept", len((folder / "scores.csv").read_text().splitlines()) == (3 if status == 7 else 2))
-        again = run(folder, words, with_true)
-        check("        and the next start goes on", status == 7 or (again[0], again[1]) == (0, wanted), again)
+        for words in (["plain", "s.sql"], ["run", "s.sql", "1"]):
+            fresh(folder, "0")
+            got = run(folder, words, nth(3, piece))
+            line = line.format(question=asked_outside.record_of(got[3][-1]))
+            check(f"{name}: {words[0]}", got[0] == status and got[2].startswith(line) and len(got[3]) == 3, (got, line))
+            check("        the answers so far are kept, and this one isn't", len((folder / "scores.csv").read_text().splitlines()) == 2)
+            again = run(folder, words, with_true)
+            check("        and the next start asks for it first", again[:2] == (0, wanted) and again[3][0] == got[3][-1], again)
     for name, form in [
         ("CR LF", lambda n: f"{n}\r\n".encode()),
         ("a sign", lambda n: f"+{n}\n".encode()),
         ("leading zeros", lambda n: f"00{n}\n".encode()),
+        ("blanks behind them", lambda n: f"{n} \t\n".encode()),
+        ("blanks and CR LF behind them", lambda n: f"{n} \r\n".encode()),
         ("two writes", lambda n: [f"{n}"[:1].encode(), f"{n}"[1:].encode() + b"\n"]),
     ]:
         fresh(folder, "0")
@@ -282,7 +201,7 @@ def try_files(folder):
         ("a predicate that isn't asked for", b"cheap,7,1\n", "scores: scores.csv: NotAsked record 1\n"),
         ("a field that isn't UTF-8", b"near,1,\xff,1\n", "scores: scores.csv: NotUtf8 record 1 field 3\n"),
         ("no score", b"near,1,row 1,x\n", "scores: scores.csv: NotScore record 1\n"),
-        ("a second score", b"near,1,a,1\nnear,1,a,1\n", "scores: scores.csv: Twice record 2\n"),
+        ("a second score", b"near,1,a,1\nnear,1,a,2\n", "scores: scores.csv: Twice record 2\n"),
     ]:
         (folder / "scores.csv").write_bytes(text)
         got = run(folder, ["run", "s.sql", "1"], with_true)
@@ -307,6 +226,7 @@ def main():
         try_answers(folder, wanted)
         try_crashes(folder, wanted)
         try_files(folder)
+        asked_outside.try_all(folder, wanted)
     try_example()
     return 1 if failures else 0
 

@@ -11,7 +11,7 @@ A document's indented blocks are looked at one after another:
 In README.md and docs/THEOREM.md each block has to be one of these, or lines of a source that the page has a link to.
 The file behind the words `The file` in front of a command is what that command reads. Each script of examples/ says in a comment
 which commands its file of output comes from. The rows of the tables that have a script and what is told are run too. The manual
-page docs/ranksql.1 has to be what tools/manual.py makes.
+pages docs/ranksql.1 and docs/ranksql_ask.1 have to be what tools/manual.py makes.
 
 It prints a line for each thing that it looked at, and ends with 1 where one fails. The program is crates/ranksql/out/ranksql, or the
 one that the variable RANKSQL names; ./try is it too. So is crates/ranksql_ask/out/ranksql_ask, or the one that RANKSQL_ASK names."""
@@ -273,11 +273,12 @@ def examples(folder):
 
 
 def manual():
-    made = subprocess.run([sys.executable, os.path.join(ROOT, "tools", "manual.py")], capture_output=True)
-    with open(os.path.join(ROOT, "docs", "ranksql.1"), "rb") as file:
-        is_same = file.read() == made.stdout
-    tell(made.returncode == 0 and is_same, "docs/ranksql.1 is what tools/manual.py makes",
-         made.stderr.decode() or "make it anew: tools/manual.py >docs/ranksql.1")
+    for words, name in (([], "docs/ranksql.1"), (["ask"], "docs/ranksql_ask.1")):
+        made = subprocess.run([sys.executable, os.path.join(ROOT, "tools", "manual.py"), *words], capture_output=True)
+        with open(os.path.join(ROOT, name), "rb") as file:
+            is_same = file.read() == made.stdout
+        tell(made.returncode == 0 and is_same, f"{name} is what tools/manual.py makes",
+             made.stderr.decode() or f"make it anew: {' '.join(['tools/manual.py', *words])} >{name}")
 
 
 def main():

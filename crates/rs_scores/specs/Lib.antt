@@ -1,6 +1,11 @@
 pub mod Questions
 pub mod Known
 pub mod TableScorer
+pub mod Lines
+pub mod Names
+pub mod Places
 pub mod Reading
+pub mod KnownBy
+pub mod Kept
 pub mod KnownFiles
 pub mod KnownTables

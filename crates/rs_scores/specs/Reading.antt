@@ -1,11 +1,14 @@
 -- Files of known scores: the scores that their records have, or the first record that is refused.
-use Rattle.std.specs.Prelude.{ℕ, ℤ, ◌≡◌, ◌⊎◌, ◌+◌, ◌-◌, ◌==◌, nat_lt, Bool, true, List, [], ◌∷◌, ◌++◌, find, length, slice_get, slice_index_or, take, Option, Some, None, is_some, option_map, Result, Ok, Err, if◌then◌else◌}
+use Rattle.std.specs.Prelude.{ℕ, ℤ, ◌≡◌, ◌⊎◌, ◌+◌, ◌-◌, nat_lt, Bool, List, [], ◌∷◌, ◌++◌, find, length, slice_index_or, take, Option, Some, None, int_eq, option_map, Result, Ok, Err, if◌then◌else◌}
 use Rattle.std.specs.Str.{is_utf8}
+use Rattle.csv.specs.Reading.{strip_bom}
 use Rattle.rs_value.specs.Number.{int_value}
 use Rattle.rs_value.specs.Results.{◌>>=◌}
 use Rattle.rs_table.specs.Records.{records_of}
 use Rattle.rs_scores.specs.Known.{Known, is_asked, score_of}
+use Rattle.rs_scores.specs.Places.{is_record, place_behind}
 use Rattle.rs_scores.specs.Questions.{is_same_question}
+use Rattle.rs_scores.specs.declared.place.Place.TheVariants.{Record}
 use Rattle.rs_scores.specs.declared.fault.KnownFault.{KnownFault}
 use Rattle.rs_scores.specs.declared.fault.KnownFault.TheVariants.{NotEnded, FieldCount, NotUtf8, NotAsked, NotScore, Twice, Memory}
 use Rattle.rs_scores.specs.declared.known_score.KnownScore.{KnownScore}
@@ -35,29 +38,29 @@ known_of names number fields =
 abbrev pub score_in : List (List ℕ) → List KnownScore → Option ℤ
 score_in question scores = option_map (λ known. known.score) (find (λ known. is_same_question known.question question) scores)
 
--- scores, and one more, whose question is none of theirs
-abbrev pub with_new : ℕ → List KnownScore → KnownScore → Result (List KnownScore) KnownFault
-with_new number before known = if is_some (score_in known.question before) then Err (Twice number) else Ok (before ++ known ∷ [])
+-- scores, and one more: where its question has this score already it is taken once
+abbrev pub with_entry : ℕ → List KnownScore → KnownScore → Result (List KnownScore) KnownFault
+with_entry number before known = unless (score_in known.question before) where
+  unless : Option ℤ → Result (List KnownScore) KnownFault
+  unless None = Ok (before ++ known ∷ [])
+  unless (Some score) = if int_eq score known.score then Ok before else Err (Twice number)
 
--- the scores of the records so far, and that of the next one
-abbrev pub with_record : List (List ℕ) → List KnownScore → List (List ℕ) → Result (List KnownScore) KnownFault
-with_record names before fields = known_of names (length before + 1) fields >>= with_new (length before + 1) before
+-- the scores of the records so far, and that of the record of this number
+abbrev pub with_record : List (List ℕ) → ℕ → List KnownScore → List (List ℕ) → Result (List KnownScore) KnownFault
+with_record names number before fields = known_of names number fields >>= with_entry number before
 
--- the scores of the records so far, and those of the next ones
-abbrev pub scores_from : List (List ℕ) → List KnownScore → List (List (List ℕ)) → Result (List KnownScore) KnownFault
-scores_from names before [] = Ok before
-scores_from names before (fields ∷ rest) = with_record names before fields >>= λ all. scores_from names all rest
+-- the scores of the records so far, and those of the next ones, from the record of this number on
+abbrev pub scores_from : List (List ℕ) → ℕ → List KnownScore → List (List (List ℕ)) → Result (List KnownScore) KnownFault
+scores_from names number before [] = Ok before
+scores_from names number before (fields ∷ rest) = with_record names number before fields >>= λ all. scores_from names (number + 1) all rest
 
--- the last record is ended: the file is empty, or its last byte is a line feed
+-- each record is ended by a line feed that stands in no quotes, behind one byte order mark
 abbrev pub is_ended : List ℕ → Bool
-is_ended bytes = is_end (slice_get bytes (length bytes - 1)) where
-  is_end : Option ℕ → Bool
-  is_end None = true
-  is_end (Some byte) = byte == 10
+is_ended bytes = is_record (place_behind Record (strip_bom bytes))
 
 -- the scores of a file, or why it has none
 abbrev pub scores_in : List (List ℕ) → List ℕ → Result (List KnownScore) KnownFault
-scores_in names bytes = if is_ended bytes then scores_from names [] (records_of bytes) else Err NotEnded
+scores_in names bytes = if is_ended bytes then scores_from names 1 [] (records_of bytes) else Err NotEnded
 
 -- a table has exactly these scores
 pub record Knows (names : List (List ℕ)) (scores : List KnownScore) (known : Known) : Type 0 where

@@ -1,6 +1,4 @@
-ghost use Rattle.std.specs.Prelude.{◌≡◌, ◌∷◌, ◌++◌, [], IfOk};
-ghost use Rattle.std.specs.Fmt.{signed_decimal};
-ghost use Rattle.csv.specs.Writing.{default_writer, row_text};
+ghost use Rattle.std.specs.Prelude.{◌≡◌, IfOk};
 
 use crate::line::{record_line, row_of};
 use crate::question::Question;
@@ -15,10 +13,16 @@ pub struct KnownScore {
 }
 
 impl KnownScore {
+    ghost use Rattle.rs_scores.specs.Lines.{known_line};
+
     /// The record of CSV that a file of known scores has for it, ended by a line feed: the predicate's name, the arguments, and
     /// the score.
+    ///
+    /// # Errors
+    ///
+    /// - `Memory`: at any call.
     pub fn line(&self, alloc: Global) -> Result<Vec<u8>, Memory>
-        ensures { IfOk result (λ line. line.items ≡ row_text default_writer (self.now.question ++ signed_decimal self.now.score ∷ [])) }
+        ensures { IfOk result (λ line. line.items ≡ known_line self.now) }
     {
         let digits = self.score.to_string(alloc)?;
         let mut row = row_of(alloc, self.question.fields())?;

@@ -8,19 +8,28 @@
 
 mod fault;
 mod known;
+mod known_file;
 mod known_files;
 mod known_score;
 mod known_tables;
+mod laws;
 mod line;
+mod names;
+mod place;
 mod question;
 mod reading;
+mod scores_fault;
 mod table_scorer;
 
 pub use fault::KnownFault;
 pub use known::KnownScores;
+pub use known_file::read_known;
 pub use known_files::KnownFiles;
 pub use known_score::KnownScore;
 pub use known_tables::KnownTables;
+pub use laws::written_scores_are_read_back;
+pub use names::names_in;
 pub use question::Question;
 pub use reading::{MOST_BYTES, read_scores};
+pub use scores_fault::ScoresFault;
 pub use table_scorer::TableScorer;

@@ -4,8 +4,8 @@ ghost use Rattle.std.specs.Cmp.{partial_order_from_own_ties};
 ghost use Rattle.std.specs.Cmp.Lexicographic.{lists_ties, pointwise, slice_cmp, texts_ties};
 ghost use Rattle.std.specs.Cmp.Rules.{comparing};
 ghost use Rattle.std.specs.Ordering.{as_partial_cmp, nat_cmp};
-ghost use Rattle.csv.specs.Writing.{default_writer, row_text};
 ghost use Rattle.rs_value.specs.Value.{printed};
+ghost use Rattle.rs_scores.specs.Lines.{question_line};
 ghost use Rattle.rs_scores.specs.Questions.{question_of};
 
 use crate::line::{record_line, row_of};
@@ -38,6 +38,10 @@ impl Question {
     }
 
     /// The question of a call of the predicate of this name with these arguments.
+    ///
+    /// # Errors
+    ///
+    /// - `Memory`: at any call.
     pub fn of(alloc: Global, predicate: &Text, args: &[Value]) -> Result<Question, Memory>
         ensures { IfOk result (λ question. question ≡ question_of (record { predicate = predicate.now; args = args.now })) }
     {
@@ -50,6 +54,10 @@ impl Question {
     }
 
     /// An equal question.
+    ///
+    /// # Errors
+    ///
+    /// - `Memory`: at any call.
     pub fn copy(&self) -> Result<Question, Memory>
         ensures { IfOk result (λ question. question ≡ self.now) }
     {
@@ -65,8 +73,12 @@ impl Question {
     }
 
     /// The question as one record of CSV, ended by a line feed.
+    ///
+    /// # Errors
+    ///
+    /// - `Memory`: at any call.
     pub fn line(&self, alloc: Global) -> Result<Vec<u8>, Memory>
-        ensures { IfOk result (λ line. line.items ≡ row_text default_writer self.now) }
+        ensures { IfOk result (λ line. line.items ≡ question_line self.now) }
     {
         let row = row_of(alloc, &self.fields)?;
         record_line(alloc, &row)

@@ -1,15 +1,17 @@
 ghost use Rattle.std.specs.Prelude.{◌≡◌, ◌∷◌, ◌≤◌, ◌<◌, ◌⊎◌, [], List, IfOk, MatchResult, if◌then◌else◌, length, nat_abs, slice_index_or, true};
 ghost use Rattle.std.specs.Bool.{MatchBool};
 ghost use Rattle.std.specs.Str.{is_utf8};
+ghost use Rattle.csv.specs.Reading.{strip_bom};
 ghost use Rattle.csv.specs.Records.{fields_of};
 ghost use Rattle.rs_value.specs.Answer.{Gives};
 ghost use Rattle.rs_value.specs.Number.{greatest_int};
 ghost use Rattle.rs_table.specs.Records.{IsReading, records_left, records_of};
-ghost use Rattle.rs_scores.specs.Reading.{Knows, Reads, ReadsTable, is_ended, known_in, known_of, scores_from, scores_in, texts_from, with_record};
+ghost use Rattle.rs_scores.specs.Reading.{Knows, Reads, ReadsTable, is_ended, known_in, known_of, scores_from, scores_in, texts_from, with_entry, with_record};
 
 use crate::fault::KnownFault;
 use crate::known::KnownScores;
 use crate::known_score::KnownScore;
+use crate::place::Place;
 use crate::question::Question;
 use csv::{ByteRecord, Reader, ReaderBuilder};
 use rs_value::{Memory, Text, TextFault, int_of};
@@ -24,11 +26,19 @@ const LEAST_FIELDS: usize = 3;
 const MOST_FIELDS: usize = 10;
 
 /// The known scores of a file, of predicates that are asked for and have these names. Each record of the file is a predicate's
-/// name, its arguments as they are printed, and the score. An empty file has none.
+/// name, its arguments as they are printed, and the score. A record that stands there twice is taken once. An empty file has none.
 ///
 /// # Errors
-/// What refuses the file first: that its last record isn't ended, and then record by record the number of its fields, a
-/// field that isn't UTF-8, a predicate that isn't asked for, a score that is no number, and a second score of one question.
+///
+/// What refuses the file first, from its first record on:
+///
+/// - `NotEnded`: before any record is looked at, exactly where the last one isn't ended by a line feed, or that one stands in quotes.
+/// - `FieldCount`: exactly where a record has fewer than 3 fields or more than 10.
+/// - `NotUtf8`: exactly where a field isn't UTF-8.
+/// - `NotAsked`: exactly where the first field is none of the names.
+/// - `NotScore`: exactly where the last field is no whole number from -4,000,000,000,000,000,000 to 4,000,000,000,000,000,000.
+/// - `Twice`: exactly where an earlier record has the same question and another score.
+/// - `Memory`: at any call.
 pub fn read_scores(alloc: Global, names: Vec<Text>, bytes: &[u8]) -> Result<KnownScores, KnownFault>
     requires { length bytes.now ≤ 33554432 }
     ensures { ReadsTable names.items (scores_in names.items bytes.now) result }
@@ -54,9 +64,20 @@ fn read_into(alloc: Global, bytes: &[u8], known: &mut KnownScores) -> Result<(),
 fn is_ended(bytes: &[u8]) -> bool
     ensures { result ≡ is_ended bytes.now }
 {
-    match bytes.last() {
-        Some(byte) => *byte == b'\n',
-        None => true,
+    let mut place = Place::Record;
+    for byte in unmarked(bytes) {
+        place = place.after(*byte);
+    }
+    place.is_record()
+}
+
+/// The bytes behind one byte order mark.
+fn unmarked(bytes: &[u8]) -> &[u8]
+    ensures { result.now ≡ strip_bom bytes.now }
+{
+    match bytes {
+        [0xEF, 0xBB, 0xBF, rest @ ..] => rest,
+        _ => bytes,
     }
 }
 
@@ -64,12 +85,14 @@ fn is_ended(bytes: &[u8]) -> bool
 fn read_records(alloc: Global, bytes: &[u8], known: &mut KnownScores) -> Result<(), KnownFault>
     requires few { length bytes.now ≤ 33554432 }
     requires none { known.old.scores ≡ [] }
-    ensures { Reads known.old.names (scores_from known.old.names [] (records_of bytes.now)) result known.new }
+    ensures { Reads known.old.names (scores_from known.old.names 1 [] (records_of bytes.now)) result known.new }
 {
     let mut reader = reader_of(alloc, bytes);
     let mut row = ByteRecord::new(alloc);
+    let mut number = 0;
     while next_record(&mut reader, &mut row)? {
-        add_record(alloc, &row, known)?;
+        number += 1;
+        add_record(alloc, number, &row, known)?;
     }
     Ok(())
 }
@@ -100,17 +123,33 @@ fn next_record<'a>(reader: &mut Reader<&'a [u8]>, row: &mut ByteRecord) -> Resul
     Ok(found)
 }
 
-/// Adds the score of the next record.
-fn add_record(alloc: Global, row: &ByteRecord, known: &mut KnownScores) -> Result<(), KnownFault>
+/// Adds the score of the record of this number.
+fn add_record(
+    alloc: Global,
+    number: u64,
+    row: &ByteRecord,
+    known: &mut KnownScores,
+) -> Result<(), KnownFault>
     ensures { (before : List KnownScore) → Knows known.old.names before known.old
-        → Reads known.old.names (with_record known.old.names before (fields_of row.now)) result known.new }
+        → Reads known.old.names (with_record known.old.names number before (fields_of row.now)) result known.new }
 {
-    let number = known.len() as u64 + 1;
     let entry = known_of(alloc, known.names(), number, row)?;
-    if known.add(entry.question, entry.score)? {
-        Ok(())
-    } else {
-        Err(KnownFault::Twice { number })
+    add_entry(number, entry, known)
+}
+
+/// Adds a score, where its question has none. The same score is taken once.
+fn add_entry(number: u64, entry: KnownScore, known: &mut KnownScores) -> Result<(), KnownFault>
+    requires { nat_abs entry.score ≤ greatest_int }
+    ensures { (before : List KnownScore) → Knows known.old.names before known.old
+        → Reads known.old.names (with_entry number before entry) result known.new }
+{
+    match known.score(&entry.question) {
+        Some(score) if score == entry.score => Ok(()),
+        Some(_) => Err(KnownFault::Twice { number }),
+        None => {
+            known.add(entry.question, entry.score)?;
+            Ok(())
+        }
     }
 }
 
