@@ -25,7 +25,7 @@ TAKEN = ("program", "stdin", "stdout", "stderr")
 STANDARD_INPUT = ("/dev/stdin", "/dev/fd/0", "/proc/self/fd/0")
 # What `rt try` says of the run itself, behind what the program says.
 ENDED = re.compile(rb"run=ended status=(\d+) .*proved=no\n")
-OF_THE_TOOL = re.compile(rb"(?:checked|interpreted): ended status=\d+\n|" + ENDED.pattern)
+OF_THE_TOOL = re.compile(rb"(?:checked|interpreter): ended status=\d+\n|" + ENDED.pattern)
 
 
 class NotHanded(Exception):
