@@ -247,7 +247,7 @@ class Reading(InFolder):
             with self.subTest(data):
                 self.put("t.csv", data)
                 script, told = self.prepare("t.csv")
-                self.assertIn("-- There is one column, and most rows have as many blanks as its name: --delimiter space", script)
+                self.assertIn("-- There is one column, and most rows have as many words as its name or one more: --delimiter space", script)
                 self.assertIn("--delimiter space", told)
                 self.assertNotIn("--delimiter space", "".join(self.prepare("t.csv", "--delimiter", ";")))
         for data in ("name\nAnn Lee\nBob Ray\n", "first name\nAnn\nBob\nMary Ann\n", "a b\n", "a b,c\nx y,1\n"):
