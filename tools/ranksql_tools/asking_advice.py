@@ -101,34 +101,50 @@ def of_read(fault, words):
 
 
 def of_write():
+    return "QUESTIONS or SCORES can't be opened to be written, or standard output took no more. What was answered is in SCORES."
+
+
+def of_lost(words):
+    """What to do where an answer couldn't be kept."""
     return (
-        "QUESTIONS or SCORES can't be opened to be written, a score could not be written to SCORES, or standard output took no more. A score that was"
-        " paid for and isn't in SCORES is asked for again."
+        f"This score was paid for, and could not be written to SCORES: the disk is full, or the file may not be written. Put the line that stands here"
+        f" behind the last one of {words[1]}, and it isn't asked for again."
     )
+
+
+AGAIN = "What was answered is in SCORES: the same words again ask only for the rest."
 
 
 def of_probe(fault):
     """What to do where the asking ended without an answer."""
-    again = "What was answered is in SCORES: the same words again ask only for the rest."
     if fault.variant == "closed":
-        return f"The answers have ended. {again}"
-    if fault.variant.endswith("is no whole number"):
+        return f"Who answers has ended: it reads no more questions, or its answers have ended. {AGAIN}"
+    if fault.variant == "read":
+        return f"ANSWERS could not be read. {AGAIN}"
+    if fault.variant:
         return (
-            f"The answer to a question of {fault.name} isn't a whole number. Answer with one line of digits, from 0 to its MAX; for decimals multiply"
-            f" all its scores and MAX by a power of ten. {again}"
+            f"The answer to a question of {fault.name} isn't a whole number in a line of its own. Answer with digits alone, from 0 to its MAX; for decimals"
+            f" multiply all its scores and MAX by a power of ten. {AGAIN}"
         )
-    if not fault.variant:
-        return f"No answer came to a question of {fault.name}: who answers has ended, or put something that is no whole number. {again}"
-    return f"No answer came to a question of {fault.name}. {again}"
+    return f"No answer came to a question of {fault.name}: who answers has ended, or put something that is no whole number. {AGAIN}"
 
 
-def of_score(name, score, most):
+def of_answer(fault):
     """What to do about an answer outside 0 to MAX."""
+    score, most = fault.numbers
+    name = fault.name.split(",")[0]
+    return f"{bad_score(name, score, most)} It isn't kept, so the same words again ask for it once more."
+
+
+def of_score(fault):
+    """What to do about a known score outside 0 to MAX."""
+    score, most = fault.numbers[:2]
+    return f"{bad_score(fault.name, score, most)} Where it stands in SCORES, take its record away."
+
+
+def bad_score(name, score, most):
     side = f"above MAX {most:,}" if score > most else "below 0"
-    return (
-        f"The score {score} of {name} was an answer or stands in SCORES, and is {side}. Let who answers keep to 0 to {most:,}, or write another MAX in"
-        f" CREATE PREDICATE {name}. Where the score stands in SCORES, take its record away."
-    )
+    return f"The score {score} of {name} is {side}. Let who answers keep to 0 to {most:,}, or write another MAX in CREATE PREDICATE {name}."
 
 
 def of_differs():

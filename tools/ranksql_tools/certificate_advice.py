@@ -2,6 +2,7 @@
 
 from itertools import islice
 
+from ranksql_tools.csv_source import PACKED
 from ranksql_tools.data_advice import number_of, record_lines
 from ranksql_tools.limits import GREATEST_K, GREATEST_SCORE, MOST_CERTIFICATE_ROWS
 from ranksql_tools.table_file import WHOLE, read_file, records
@@ -17,6 +18,8 @@ def of_certificate(fault):
     body = read_file(fault.name)
     if body is None:
         return [], "The file isn't a plain one that could be read a second time, so the record can't be shown."
+    if body.startswith(PACKED):
+        return [], f"The file is packed by gzip, and a certificate is plain text: gunzip -c {fault.name} >NEW."
     place = fault.numbers[0]
     found = list(islice(records(body), place))
     if not found:

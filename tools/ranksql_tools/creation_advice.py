@@ -1,7 +1,7 @@
 """What to do about CREATE and INSERT where they don't parse."""
 
 from ranksql_tools.limits import GREATEST_NUMBER
-from ranksql_tools.query_advice import arguments
+from ranksql_tools.query_advice import arguments, no_brackets
 from ranksql_tools.script_place import closest
 
 
@@ -119,7 +119,7 @@ def indexes(place):
     if place.inside("index") and "INDEX" in place.expected:
         return "Write CREATE RANK INDEX."
     if place.inside("call"):
-        return (
+        return no_brackets(place) or (
             f"A rank index is of a predicate, not of a column. Make one, such as CREATE PREDICATE by_{place.near(-1).text}"
             f" ({place.near(-1).text} INT) MAX 1000 AS {place.near(-1).text}, and name it here: (by_{place.near(-1).text}({place.near(-1).text}))."
         )

@@ -2,6 +2,7 @@
 
 import json
 import re
+from decimal import Decimal
 
 # How a JSON text begins that is a list of values, or an object. A header in square brackets, as [name], is none.
 BEGINS = re.compile(r"\s*(?:\[\s*[\[{\"\d\-]|\{\s*[\"}])")
@@ -28,8 +29,7 @@ def records_of(text):
 def objects_of(text):
     """The objects that are the rows."""
     try:
-        # Numbers stay as they are written, since a table may scale them.
-        whole = json.loads(text, parse_int=str, parse_float=str, parse_constant=str)
+        whole = value_of(text)
     except ValueError:
         return objects_by_line(text)
     if isinstance(whole, dict):
@@ -40,10 +40,15 @@ def objects_of(text):
     raise NoRows("it is no list of objects")
 
 
+def value_of(text):
+    """The value of a JSON text, with the exact numbers, since a table may scale them."""
+    return json.loads(text, parse_float=Decimal, parse_constant=str)
+
+
 def objects_by_line(text):
     """The objects of a text that has one in each line."""
     try:
-        rows = [json.loads(line, parse_int=str, parse_float=str, parse_constant=str) for line in text.splitlines() if line.strip()]
+        rows = [value_of(line) for line in text.splitlines() if line.strip()]
     except ValueError as error:
         raise NoRows("it can't be read: %s" % error) from None
     if not is_rows(rows):
@@ -62,4 +67,6 @@ def cell_of(value):
         return ""
     if isinstance(value, bool):
         return "1" if value else "0"
-    return value if isinstance(value, str) else json.dumps(value, ensure_ascii=False)
+    if isinstance(value, (dict, list)):
+        return json.dumps(value, ensure_ascii=False, default=float)
+    return str(value)

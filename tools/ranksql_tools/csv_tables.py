@@ -236,11 +236,11 @@ def notes_on_header(opened, places, cells, options):
     if options.no_header:
         return []
     headings = [opened.headings[place] for place in places]
-    numbers = numbers_in_header(headings, [Counter(column) for column in cells])
+    numbers = numbers_in_header(headings, cells)
     if numbers:
         return ["The header has numbers where the rows have: %s; if it is a row, --no-header keeps it" % shown_cells(numbers)]
     if len(opened.headings) == 1 and not options.delimiter and cells and parted_by_blanks(opened.headings[0], cells[0]):
-        return ["There is one column, and most rows have as many blanks as its name: --delimiter space takes them as what parts the fields"]
+        return ["There is one column, and most rows have as many words as its name or one more: --delimiter space takes blanks as what parts the fields"]
     return []
 
 

@@ -134,9 +134,7 @@ def of_header(fault, statement, body, found, header):
     """What to do where the header isn't that of the statement."""
     path = fault.name
     lines = record_lines(path, body, found[0])
-    if fault.variant == "NoColumn":
-        return lines, f"The header has no such column. It has: {', '.join(header[:20])}{', ..' if len(header) > 20 else ''}."
-    if len(header) > MOST_COLUMNS:
+    if len(header) > MOST_COLUMNS and fault.variant != "NoColumn":
         return lines, f"The file has {len(header)} columns, and a table has {MOST_COLUMNS} at most. {helper('prepare')} {path} writes a file with those that you name."
     for delimiter, name in ((";", "semicolons"), ("\t", "tabs"), ("|", "bars")):
         if len(header) == 1 and delimiter in found[0].fields[0].decode("utf-8", "replace"):
@@ -150,6 +148,8 @@ def of_header(fault, statement, body, found, header):
     row = row_in_front(path, found, header, wanted)
     if row:
         return lines, row
+    if fault.variant == "NoColumn":
+        return lines, f"The header has no such column. It has: {', '.join(header[:20])}{', ..' if len(header) > 20 else ''}."
     if len(set(header)) < len(header) or "" in header:
         return lines, f"The header has an empty name, or one name twice, which no table can have. {helper('prepare')} {path} writes a file with names that fit."
     kinds = kinds_of(found, len(header))

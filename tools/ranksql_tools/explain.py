@@ -2,8 +2,10 @@
 
 from ranksql_tools import asking_advice, bind_advice, certificate_advice, command_advice, data_advice, parse_advice
 from ranksql_tools.faults import lines_of, read_asking_fault, read_fault
+from ranksql_tools.file_sorts import of_odd_script
 from ranksql_tools.foreign_advice import foreign_word
 from ranksql_tools.limits import MOST_CURSORS, SCRIPT_WORDS
+from ranksql_tools.program import helper
 from ranksql_tools.script_parse import parse
 from ranksql_tools.script_place import Place, scorings
 from ranksql_tools.script_text import tokens_of, with_caret, without_mark
@@ -66,6 +68,9 @@ def explained_fault(fault, words, body):
         if body is None:
             return []
         body = without_mark(body)
+        odd = of_odd_script(words[1], body, helper("prepare")) if fault.step in ("", "lex", "parse") else ""
+        if odd:
+            return [odd]
         says = of_script(fault, body)
         return [*with_caret(body, fault.place), *([says] if says else [])]
     return of_data(fault, words, body)
@@ -90,9 +95,12 @@ def asking_explanation(said, words, body):
         return [asking_advice.of_write()]
     if fault.kind == "differs":
         return [asking_advice.of_differs()]
-    name = fault.name.split(",")[0]
-    if fault.kind == "score" and name in words[0].split(","):
-        return [asking_advice.of_score(name, *fault.numbers[:2])]
+    if fault.kind == "lost":
+        return [asking_advice.of_lost(words)]
+    if fault.kind == "answer":
+        return [asking_advice.of_answer(fault)]
+    if fault.kind == "score" and fault.name in words[0].split(","):
+        return [asking_advice.of_score(fault)]
     ends = asking_advice.of_read(fault, words) if fault.kind == "read" else ""
     if ends:
         return [ends]

@@ -14,14 +14,15 @@ TABLE = re.compile(
 )
 READ = re.compile(r"read: (.*): (missing|too long|failed)", re.DOTALL)
 SESSION = re.compile(r"session: (NameTaken|Unknown|Full) (.*)", re.DOTALL)
-PROBE = re.compile(r"probe: (.*?)(?:: (closed|failed|too long|\".*\" is no whole number))?", re.DOTALL)
+PROBE = re.compile(r"probe: (.*?)(?:: (closed|read|more than \d+ bytes|\".*\" is no whole number))?", re.DOTALL)
 SCORES = re.compile(
     r"scores: (.*): (NotEnded|InUse|FieldCount record \d+ found \d+|NotAsked record \d+|NotUtf8 record \d+ field \d+|NotScore record \d+"
     r"|Twice record \d+)",
     re.DOTALL,
 )
 ASK = re.compile(r"ask: (?:no predicate (.*)|((?:QUESTIONS|ANSWERS|SCORES) (?:is standard \w+|and \w+ are one file)))", re.DOTALL)
-ANSWER = re.compile(r"score: (.*): (-?\d+) is not in 0\.\.(\d+)", re.DOTALL)
+ANSWER = re.compile(r"score: (-?\d+) is not in 0\.\.(\d+): (.*)", re.DOTALL)
+NOT_KEPT = "write: not kept:"
 COUNTS = re.compile(r"calls=\d+ questions=\d+ known=\d+")
 
 
@@ -79,13 +80,12 @@ def read_asking_fault(line):
     found = ASK.fullmatch(line)
     if found:
         return Fault("ask", variant=found[2] or "no predicate", name=found[1] or "")
-    if line == "differs":
-        return Fault(line)
-    fault = read_fault(line)
     found = ANSWER.fullmatch(line)
-    if fault is None and found:
-        return Fault("score", name=found[1], numbers=(int(found[2]), int(found[3])))
-    return fault
+    if found:
+        return Fault("answer", name=found[3], numbers=(int(found[1]), int(found[2])))
+    if line.startswith(NOT_KEPT + "\n"):
+        return Fault("lost", name=line[len(NOT_KEPT) + 1:])
+    return Fault(line) if line == "differs" else read_fault(line)
 
 
 def lines_of(said):

@@ -1,6 +1,7 @@
 """What a file is that is no table: packed, in another encoding, JSON, parted by blanks, or without a header."""
 
 import csv
+import os
 from collections import Counter
 
 from ranksql_tools.csv_cells import MISSING, number_of
@@ -9,6 +10,7 @@ from ranksql_tools.csv_source import LOOKED_AT_BYTES, PACKED, encoding_at, no_te
 
 YEARS = range(1500, 2101)
 NAMES_OF_ENCODINGS = {"utf-32": "UTF-32"}
+TABLE_ENDINGS = (".csv", ".tsv", ".json", ".jsonl", ".ndjson")
 
 
 def of_odd_file(body, prepare):
@@ -26,6 +28,16 @@ def of_odd_file(body, prepare):
         return f"The file is written in {name}, and a table's file in UTF-8. {prepare} writes it anew, and its CREATE TABLE."
     if is_json(head.decode("utf-8", "replace")):
         return f"The file is JSON, and a table's file is CSV. {prepare} makes such a file of a list of objects, and its CREATE TABLE."
+    return ""
+
+
+def of_odd_script(name, body, prepare):
+    """What to do where a script's bytes are no text, or those of a table; else nothing."""
+    if body.startswith(PACKED):
+        return f"The script is packed by gzip, and has to be plain text: gunzip -c {name} >NEW."
+    stem, ending = os.path.splitext(name)
+    if ending.lower() in TABLE_ENDINGS or is_json(body[:LOOKED_AT_BYTES].decode("utf-8", "replace")):
+        return f"This is a table's file, and here stands a script. {prepare} {name} >{stem}.sql makes a table of it, and a script with its CREATE TABLE."
     return ""
 
 

@@ -338,7 +338,10 @@ def misspelt(place):
 
 def is_second_word(place):
     """Whether a word stands behind another one that is compared: a text of several words without its quotes."""
-    return place.near(-1).sort == "word" and place.near(-2).is_symbol(*COMPARISONS) and not token_is_clause(place.token)
+    if place.near(-1).sort != "word" or not place.near(-2).is_symbol(*COMPARISONS) or token_is_clause(place.token):
+        return False
+    behind = next((token for token in place.after() if token.sort not in ("word", "number") or token_is_clause(token)), None)
+    return behind is None or not behind.is_symbol(*COMPARISONS, ".", "(")
 
 
 def token_is_clause(token):

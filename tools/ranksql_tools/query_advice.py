@@ -100,13 +100,9 @@ def items(place):
 
 def distinct_on(place):
     """DISTINCT ON, with columns between brackets."""
-    inside = []
-    for token in place.tokens[place.index + 1:place.index + 40]:
-        if token.is_symbol(")"):
-            break
-        if not token.is_symbol("("):
-            inside.append(token)
-    same = spelt(inside) if inside else "value"
+    rest = place.after()[1:]
+    closing = next((index for index, token in enumerate(rest) if token.is_symbol(")")), 0)
+    same = spelt(rest[1:closing]) if rest[:1] and rest[0].is_symbol("(") and closing > 1 else "values"
     limit = ", and LIMIT too" if any(token.is_word("LIMIT") for token in place.after()) else ""
     return (
         f"There is no DISTINCT ON: DISTINCT keeps the best row of each list of output values. Leave DISTINCT ON and its brackets out{limit}."
@@ -127,6 +123,8 @@ def sources(place):
         return "A table has one name, without a schema in front."
     if token.is_word("WHERE", "ORDER") and before.is_symbol(","):
         return "Behind the last table there is no `,`."
+    if before.is_word("FROM") and (token.is_word("WHERE", "ORDER", "LIMIT", "UNION") or token.sort in ("end", "number") or token.is_symbol(";", ",")):
+        return "FROM names a table that CREATE TABLE made: SELECT name FROM hotels ORDER BY cheap(price)."
     if "a name" in place.expected and word in RESERVED and before.is_word("FROM", "AS"):
         return quoted_name(token)
     return None
@@ -156,10 +154,14 @@ def terms(place):
     """A term of ORDER BY."""
     token, before, behind = place.token, place.near(-1), place.near(1)
     if place.inside("call"):
+        if token.is_symbol(".") and before.says in place.predicates:
+            return f"{before.text} is a predicate, and its arguments stand between brackets: {before.text}({behind.text})."
         if token.is_symbol("."):
             name = behind.text
             return column_order(name, f"{before.text}.{name}")
         return no_brackets(place) or column_order(before.text, before.text)
+    if place.inside("weight") and token.is_symbol("-"):
+        return subtracted(place)
     if place.inside("weight"):
         if before.sort == "number" and (token.sort == "end" or token.is_symbol(";", ",") or token.is_word("DESC", "LIMIT", "ASC")):
             return "ORDER BY takes predicates, and not the place of a column. Make a predicate of the column and rank by it: ORDER BY by_price(price)."
@@ -175,6 +177,8 @@ def terms(place):
         return "A term has no sign. For the least value first, make a predicate whose score falls as the value rises: AS 400 - price."
     if token.is_symbol("-") and "a name" not in place.expected:
         return subtracted(place)
+    if before.is_symbol(")") and token.says in place.predicates:
+        return "Between two terms stands `+`: 2 * cheap(price) + liked(rating)."
     if token.is_symbol("-", "*", "/"):
         return "A term is a predicate with a weight in front, as in 2 * cheap(price). Compute in the predicate's formula."
     if token.sort == "literal":
@@ -195,9 +199,10 @@ def no_brackets(place):
         if name is None:
             return None
         scoring = place.predicates[name]
-    given = []
+    given, commas = [], 0
     for other in place.after():
-        if other.is_symbol("+", ")") or other.is_word("DESC", "ASC", "LIMIT"):
+        commas += other.is_symbol(",")
+        if commas == len(scoring.made.columns) or other.is_symbol("+", ")") or other.is_word("DESC", "ASC", "LIMIT", *STATEMENTS):
             break
         given.append(other)
     capitals = "" if scoring.made.name.says == before.says else f" Capitals count in names: write {scoring.name}."

@@ -84,7 +84,8 @@ class Pages:
             yield from self.comment(function.doc)
             text = [function.signature]
             for clause in function.clauses:
-                text += [f"    // {line}" for line in clause.comment] + ["    " + line for line in clause.text.splitlines()]
+                first, *more = clause.text.splitlines()
+                text += [f"    // {line}" for line in clause.comment] + [f"    {first}"] + [f"        {line}" for line in more]
             yield from ("", *code("\n".join(text)), "", f"In `{function.path}`.")
 
     def comment(self, doc):

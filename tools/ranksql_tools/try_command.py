@@ -18,14 +18,15 @@ nothing is proved of it. ./ranksql proves and builds the program once, and then 
 usage: ./try WORD ..    the words are those of ranksql, as in ./try run examples/first.sql 1
 
 It takes about a minute and a half, and the rows come at the end. The files that the script names are handed in as they are.
-Standard output has the program's output alone, and the status is the program's; it is 70 where the program could not be run."""
+A run of more than a minute, or one that prints more than 1 MiB, gives no answer. Standard output has the program's output
+alone, and the status is the program's; it is 70 where the program could not be run."""
 NOT_RUN = 70
 # Names that `rt try` needs for itself in the folder in which the program runs.
 TAKEN = ("program", "stdin", "stdout", "stderr")
 STANDARD_INPUT = ("/dev/stdin", "/dev/fd/0", "/proc/self/fd/0")
 # What `rt try` says of the run itself, behind what the program says.
 ENDED = re.compile(rb"run=ended status=(\d+) .*proved=no\n")
-OF_THE_TOOL = re.compile(rb"(?:checked|interpreted): ended status=\d+\n|" + ENDED.pattern)
+OF_THE_TOOL = re.compile(rb"(?:checked|interpreter): ended status=\d+\n|" + ENDED.pattern)
 
 
 class NotHanded(Exception):

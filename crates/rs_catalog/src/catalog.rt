@@ -148,11 +148,11 @@ impl Catalog {
     ///
     /// # Errors
     ///
-    /// - `BadScore`: exactly at the first of these calls whose answer lies outside 0 to the predicate's MAX, unless one
-    ///   of the other two came before.
+    /// - `BadScore`: exactly at the first call whose answer lies outside 0 to the predicate's MAX, unless `Probe` or
+    ///   `Memory` came before.
     /// - `Probe`: only where the last call that was made failed; the scorer's count of faults rose.
-    /// - `Memory`: at any time, but not behind an answer outside that range. The calls that were made are a first part
-    ///   of those above.
+    /// - `Memory`: at any time, but not behind an answer outside that range. Then the calls that were made are the
+    ///   first ones, in their order.
     pub fn add_index<S: Scorer>(
         &mut self,
         alloc: Global,
@@ -185,11 +185,11 @@ impl Catalog {
     ///
     /// # Errors
     ///
-    /// - `BadScore`: exactly at the first of these calls whose answer lies outside 0 to the predicate's MAX, unless one
-    ///   of the other two came before.
+    /// - `BadScore`: exactly at the first call whose answer lies outside 0 to the predicate's MAX, unless `Probe` or
+    ///   `Memory` came before.
     /// - `Probe`: only where the last call that was made failed; the scorer's count of faults rose.
-    /// - `Memory`: at any time, but not behind an answer outside that range. The calls that were made are a first part
-    ///   of those above.
+    /// - `Memory`: at any time, but not behind an answer outside that range. Then the calls that were made are the
+    ///   first ones, in their order.
     pub fn add_rows<S: Scorer>(
         &mut self,
         alloc: Global,
@@ -319,7 +319,7 @@ impl Catalog {
     ///
     /// # Errors
     ///
-    /// - `None`: exactly where there is no such index.
+    /// - `None`: exactly where there is no index of this table and predicate and these arguments.
     pub fn index_for(&self, table: u8, predicate: u8, args: &[BoundArg], entry: u8) -> Option<u8>
         ensures value { result ≡ index_of table predicate args.now entry self.now }
         ensures within { IfSome result (λ number. number < length self.now.indexes) }
@@ -359,7 +359,7 @@ impl Catalog {
     ///
     /// # Errors
     ///
-    /// - `None`: exactly where there is no such entry.
+    /// - `None`: exactly where no entry of these rows comes behind `after`.
     pub fn index_after(&self, index: u8, after: Option<(u32, u32)>, rows: u32) -> Option<(u32, u32)>
         requires { index < length self.now.indexes }
         ensures { result ≡ entry_after after rows (ranking_at self.now index) }

@@ -112,7 +112,7 @@ impl<'a> Snapshot<'a> {
     ///
     /// # Errors
     ///
-    /// - `None`: exactly where there is no such entry.
+    /// - `None`: exactly where no entry comes behind `after`.
     pub fn index_after(&self, index: u8, after: Option<(u32, u32)>) -> Option<(u32, u32)>
         requires { index < length self.now.indexes }
         ensures { result ≡ first_entry (filter (is_behind after) (ranking_at self.now index)) }

@@ -19,8 +19,8 @@ use std::alloc::Global;
 ///
 /// # Errors
 ///
-/// - `Form`: exactly where the records are those of no certificate, with the first record with which those of none
-///   begin, and 1 where there is no record.
+/// - `Form`: exactly where the records are those of no certificate, with the first one that no certificate has there,
+///   and 1 where there is none.
 /// - `Memory`: at any call, in place of each answer.
 pub fn read_cert(alloc: Global, bytes: &[u8]) -> Result<Cert, CertFault>
     requires { length (records_of bytes.now) < 2 ^ 32 }

@@ -17,7 +17,7 @@ impl Expr {
     ///
     /// # Errors
     ///
-    /// - `None`: exactly where the formula or a part of it passes 2^127 - 1, or a divisor is 0.
+    /// - `None`: exactly where that of the formula or of a part passes 2^127 - 1, or a divisor is 0.
     #[cycle(width)]
     pub fn width(&self) -> Option<u128>
         ensures value { result ≡ width_of (formula_of self.now) }

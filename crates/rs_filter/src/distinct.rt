@@ -43,7 +43,7 @@ impl DistinctCore {
     /// # Errors
     ///
     /// - `None`: exactly where an earlier row had these values.
-    /// - `Memory`: at any call; it is spent from then on.
+    /// - `Memory`: at any call; the operator is spent from then on.
     pub fn feed(&mut self, row: RankRow, values: Vec<Value>) -> Result<Option<RankRow>, Memory>
         requires { self.old.spent ≡ false }
         ensures row { IfOk result (λ given. given ≡ given_for row values.items self.old.lists) }

@@ -182,7 +182,7 @@ impl Hrjn {
     ///
     /// # Errors
     ///
-    /// - `None`: exactly where it isn't ready. Then nothing changes.
+    /// - `None`: exactly where the operator isn't ready. Then nothing changes.
     pub fn take(&mut self) -> Option<RankRow>
         requires { self.old.ripple.spent ≡ false }
         ensures row { result ≡ taken_for (ask_of self.old.ripple) self.old.ripple }
@@ -197,7 +197,7 @@ impl Hrjn {
     ///
     /// # Errors
     ///
-    /// - `None`: never, since it is ready.
+    /// - `None`: never, since the join has to be ready.
     pub fn take_ready(&mut self) -> Option<RankRow>
         requires alive { self.old.ripple.spent ≡ false }
         requires ready { ask_of self.old.ripple ≡ Ready }

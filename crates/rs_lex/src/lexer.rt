@@ -24,11 +24,12 @@ const _: () = prove!(MOST_BYTES <= u32::MAX as usize);
 ///
 /// # Errors
 ///
-/// - `BadByte`: exactly where the first such place is a byte at which no token begins, the first mark of an empty name
-///   among them, or a letter directly behind a number.
-/// - `OpenText`: exactly where it is a mark that opens a text or a name that is never closed.
-/// - `NumberTooWide`: exactly where it is digits whose number passes 4,000,000,000,000,000,000.
-/// - `TooManyTokens`: exactly where it is something else than a blank or a comment, behind 100,000 tokens.
+/// - `TooManyTokens`: exactly where the first such place stands behind 100,000 tokens.
+/// - `BadByte`: exactly where it stands behind fewer, and is a byte at which no token begins, the first mark of an
+///   empty name among them, or a letter directly behind a number.
+/// - `OpenText`: exactly where it stands behind fewer, and is a mark that opens a text or a name that is never closed.
+/// - `NumberTooWide`: exactly where it stands behind fewer, and is that of digits whose number passes
+///   4,000,000,000,000,000,000.
 /// - `Memory`: at any call, in place of each answer.
 pub fn tokens(alloc: Global, script: &Text) -> Result<Vec<Token>, LexFault>
     requires { length script.now ≤ 1048576 }

@@ -97,7 +97,7 @@ impl MuCore {
     ///
     /// # Errors
     ///
-    /// - `Memory`: at any call; it is spent from then on.
+    /// - `Memory`: at any call; the operator is spent from then on.
     pub fn feed(&mut self, row: RankRow, worth: u32) -> Result<(), Memory>
         requires { CanFeed row worth self.old }
         ensures ok { OnOk result (self.new ≡ fed row worth self.old) }
@@ -144,7 +144,7 @@ impl MuCore {
     ///
     /// # Errors
     ///
-    /// - `None`: exactly where it isn't ready. Then nothing changes.
+    /// - `None`: exactly where the operator isn't ready. Then nothing changes.
     pub fn take(&mut self) -> Option<RankRow>
         requires { self.old.spent ≡ false }
         ensures row { result ≡ taken_for (ask_of self.old) self.old }

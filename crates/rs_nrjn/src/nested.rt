@@ -136,7 +136,7 @@ impl Nrjn {
     ///
     /// # Errors
     ///
-    /// - `None`: exactly where it isn't ready. Then nothing changes.
+    /// - `None`: exactly where the operator isn't ready. Then nothing changes.
     pub fn take(&mut self) -> Option<RankRow>
         requires { self.old.ripple.spent ≡ false }
         ensures row { result ≡ taken_for (ask_of self.old.ripple) self.old.ripple }
@@ -150,7 +150,7 @@ impl Nrjn {
     ///
     /// # Errors
     ///
-    /// - `None`: never, since it is ready.
+    /// - `None`: never, since the join has to be ready.
     pub fn take_ready(&mut self) -> Option<RankRow>
         requires alive { self.old.ripple.spent ≡ false }
         requires ready { ask_of self.old.ripple ≡ Ready }

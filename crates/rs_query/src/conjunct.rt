@@ -72,7 +72,7 @@ impl Conjunct {
     ///
     /// # Errors
     ///
-    /// - `None`: exactly where it isn't.
+    /// - `None`: exactly where the condition doesn't say that columns of two entries are equal.
     pub fn equality(&self) -> Option<((u8, u8), (u8, u8))>
         ensures { result ≡ self.now.equality }
     {

@@ -263,7 +263,7 @@ impl RippleCore {
     ///
     /// # Errors
     ///
-    /// - `Memory`: at any call; it is spent from then on.
+    /// - `Memory`: at any call; the operator is spent from then on.
     pub fn found(&mut self, row: RankRow) -> Result<(), Memory>
         requires { CanFind row self.old }
         ensures ok { OnOk result (self.new ≡ found row self.old) }
@@ -330,7 +330,7 @@ impl RippleCore {
     ///
     /// # Errors
     ///
-    /// - `None`: exactly where it isn't ready. Then nothing changes.
+    /// - `None`: exactly where the operator isn't ready. Then nothing changes.
     pub fn take(&mut self) -> Option<RankRow>
         requires { self.old.spent ≡ false }
         ensures row { result ≡ taken_for (ask_of self.old) self.old }
@@ -348,7 +348,7 @@ impl RippleCore {
     ///
     /// # Errors
     ///
-    /// - `None`: never, since it is ready.
+    /// - `None`: never, since the join has to be ready.
     pub fn take_ready(&mut self) -> Option<RankRow>
         requires alive { self.old.spent ≡ false }
         requires ready { ask_of self.old ≡ Ready }

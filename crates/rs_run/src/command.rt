@@ -29,7 +29,8 @@ use rs_value::Text;
 use std::alloc::Global;
 
 /// Does all that the command does: takes the words of the command line without the program's name, fetches from
-/// `files`, asks `scorer` for scores, puts rows to `out` and the line of a fault to `err`, and answers the status.
+/// `files`, asks `scorer` for scores, puts rows to `out` and the line of a fault to `err`, and answers the status. Where the
+/// files don't tell what they hold, as those of the system, what is said of a run is said of one over some files.
 ///
 /// # Errors
 ///

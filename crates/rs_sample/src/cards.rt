@@ -34,7 +34,7 @@ impl Cards {
     /// # Errors
     ///
     /// - `Probe`: only where the last call that was made failed; the scorer's count of faults rose.
-    /// - `Memory`: at any time. The calls that were made are a first part of those above.
+    /// - `Memory`: at any time. Then the calls that were made are the first ones, in their order.
     pub fn take<S: Scorer>(
         alloc: Global,
         catalog: &Catalog,

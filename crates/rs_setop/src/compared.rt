@@ -136,7 +136,7 @@ impl<C: Choice> Compared<C> {
     ///
     /// # Errors
     ///
-    /// - `Memory`: at any call; it is spent from then on.
+    /// - `Memory`: at any call; the operator is spent from then on.
     pub fn feed_left(&mut self, row: RankRow, values: Vec<Value>) -> Result<(), Memory>
         requires alive { self.old.spent ≡ false }
         requires need { ask_of self.old ≡ NeedLeft }
@@ -161,7 +161,7 @@ impl<C: Choice> Compared<C> {
     ///
     /// # Errors
     ///
-    /// - `Memory`: at any call; it is spent from then on.
+    /// - `Memory`: at any call; the operator is spent from then on.
     pub fn feed_right(&mut self, row: RankRow, values: Vec<Value>) -> Result<(), Memory>
         requires alive { self.old.spent ≡ false }
         requires need { ask_of self.old ≡ NeedRight }
@@ -201,7 +201,7 @@ impl<C: Choice> Compared<C> {
     ///
     /// # Errors
     ///
-    /// - `None`: exactly where it isn't ready. Then nothing changes.
+    /// - `None`: exactly where the operator isn't ready. Then nothing changes.
     pub fn take(&mut self) -> Option<RankRow>
         requires { self.old.spent ≡ false }
         ensures row { result ≡ taken_for (ask_of self.old) self.old }

@@ -185,7 +185,7 @@ impl<R: Repeats> Merged<R> {
     ///
     /// # Errors
     ///
-    /// - `None`: exactly where it isn't ready. Then nothing changes.
+    /// - `None`: exactly where the operator isn't ready. Then nothing changes.
     pub fn take(&mut self) -> Option<RankRow>
         requires { self.old.spent ≡ false }
         ensures row { result ≡ taken_for (ask_of self.old.heads) self.old }

@@ -169,8 +169,8 @@ fn roomy_index(
 ///
 /// - `Script`: exactly where the statement breaks a rule of names and types, or the catalogue has no room for its name;
 ///   nobody is called then.
-/// - `BadScore`: exactly at the first row whose answer lies outside 0 to the predicate's MAX, unless `Probe` or
-///   `Memory` came before.
+/// - `BadScore`: exactly at the first row for which a number outside 0 to the predicate's MAX is answered, unless
+///   `Probe` or `Memory` came before.
 /// - `Probe`: only where the last call that was made failed; the scorer's count of faults rose.
 /// - `Memory`: at any time, in place of what else would come.
 /// - `Read`, `Write`, `Table`, `Session`: never.

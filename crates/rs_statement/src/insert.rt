@@ -42,8 +42,8 @@ fn bound_rows(
 /// # Errors
 ///
 /// - `Script`: exactly where the statement breaks a rule of names and types; nobody is called then.
-/// - `BadScore`: exactly at the first of these calls whose answer lies outside 0 to the predicate's MAX, unless `Probe`
-///   or `Memory` came before.
+/// - `BadScore`: exactly at the first call whose answer lies outside 0 to the predicate's MAX, unless `Probe` or
+///   `Memory` came before.
 /// - `Probe`: only where the last call that was made failed; the scorer's count of faults rose.
 /// - `Memory`: at any time, in place of what else would come.
 /// - `Read`, `Write`, `Table`, `Session`: never.

@@ -87,8 +87,8 @@ pub fn release(catalog: Catalog, session: Session) {
 /// # Errors
 ///
 /// - `Script`: exactly where the query breaks a rule of names and types; nobody is called then.
-/// - `Session`: behind that, `NameTaken` exactly where a cursor of the name is open, and `Full` exactly where 64 are open
-///   and the name is free; nobody is called then.
+/// - `Session`: behind the rules of the query, `NameTaken` exactly where a cursor of the name is open, and `Full`
+///   exactly where 64 are open and the name is free; nobody is called then.
 /// - `BadScore`: plainly, exactly at the first call whose answer lies outside 0 to the predicate's MAX, unless `Probe`
 ///   or `Memory` came before; by a plan never.
 /// - `Probe`: only where the last call that was made failed; the scorer's count of faults rose.
@@ -264,10 +264,10 @@ fn insert(session: &mut Session, name: Text, held: CursorRows) -> Result<(), Mem
 ///
 /// # Errors
 ///
-/// - `Script`: exactly where the number lies outside 0 to 1,000,000.
-/// - `Session`: behind that, `Unknown` exactly where no cursor of the name is open.
-/// - `BadScore`: exactly at the first of these calls whose answer lies outside 0 to the predicate's MAX, unless another
-///   fault came before.
+/// - `Script`: exactly where the number of FETCH lies outside 0 to 1,000,000.
+/// - `Session`: behind the number, `Unknown` exactly where no cursor of the name is open.
+/// - `BadScore`: exactly at the first call whose answer lies outside 0 to the predicate's MAX, unless another fault
+///   came before.
 /// - `Probe`: only where the last call that was made failed; the scorer's count of faults rose.
 /// - `Write`: only where a put failed; standard output's count of faults rose.
 /// - `Memory`: at any time, in place of what else would come.

@@ -10,8 +10,8 @@ use std::alloc::Global;
 ///
 /// # Errors
 ///
-/// - `None`: exactly where the block isn't eligible: where it is DISTINCT, has several FROM entries, no term, or a term without a
-///   rank index.
+/// - `None`: exactly where the block isn't eligible: where it is DISTINCT, hasn't just one FROM entry, has no term, or has a term
+///   without a rank index.
 /// - `Memory`: at any call.
 pub fn eligible_indexes(
     alloc: Global,

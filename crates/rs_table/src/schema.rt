@@ -54,9 +54,9 @@ impl Schema {
     /// The first of these that holds, exactly where one does; only `Memory` may come in its place.
     ///
     /// - `NoHeader`: the file has no record.
-    /// - `TooManyColumns`: its first record has more than 64 fields.
-    /// - `NotUtf8`: a field of it isn't UTF-8; the row is 0, and the column that of the first such field.
-    /// - `NoColumn`: no field of it is the given name.
+    /// - `TooManyColumns`: the header has more than 64 fields.
+    /// - `NotUtf8`: a field of the header isn't UTF-8. The row is 0, and the column that of the first such field.
+    /// - `NoColumn`: no field of the header is the given name.
     /// - `Memory`: at any call.
     /// - `HeaderDiffers`, `FieldCount`, `NotInt`, `TooManyRows`: never.
     pub fn of_header(alloc: Global, bytes: &[u8], column: &Text) -> Result<Schema, TableFault>

@@ -26,7 +26,7 @@ pub trait Scope {
     /// # Errors
     ///
     /// - `At`: exactly where the column stands for none, with the rule that it breaks and its place.
-    /// - `Memory`: never.
+    /// - `Memory`: where the scope's definition says so, which none here does.
     fn find(&self, column: &ColRef) -> Result<(u16, Kind), BindFault>
         ensures { result ≡ finds self.now column.now };
 }

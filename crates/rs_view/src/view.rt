@@ -50,11 +50,11 @@ impl View {
     ///
     /// # Errors
     ///
-    /// - `BadScore`: exactly at the first of these calls whose answer lies outside 0 to the predicate's MAX, unless one
-    ///   of the other two came before.
+    /// - `BadScore`: exactly at the first call whose answer lies outside 0 to the predicate's MAX, unless `Probe` or
+    ///   `Memory` came before.
     /// - `Probe`: only where the last call that was made failed; the scorer's count of faults rose.
-    /// - `Memory`: at any time, but not behind an answer outside that range. The calls that were made are a first part
-    ///   of those above.
+    /// - `Memory`: at any time, but not behind an answer outside that range. Then the calls that were made are the
+    ///   first ones, in their order.
     pub fn make<S: Scorer>(
         alloc: Global,
         catalog: &Catalog,
@@ -85,11 +85,11 @@ impl View {
     ///
     /// # Errors
     ///
-    /// - `BadScore`: exactly at the first of these calls whose answer lies outside 0 to the predicate's MAX, unless one
-    ///   of the other two came before.
+    /// - `BadScore`: exactly at the first call whose answer lies outside 0 to the predicate's MAX, unless `Probe` or
+    ///   `Memory` came before.
     /// - `Probe`: only where the last call that was made failed; the scorer's count of faults rose.
-    /// - `Memory`: at any time, but not behind an answer outside that range. The calls that were made are a first part
-    ///   of those above.
+    /// - `Memory`: at any time, but not behind an answer outside that range. Then the calls that were made are the
+    ///   first ones, in their order.
     pub fn grow<S: Scorer>(
         &mut self,
         alloc: Global,

@@ -23,8 +23,8 @@ use std::alloc::Global;
 ///
 /// - `Read`: with `Missing` or `TooLong` exactly where the run comes to the fetch of a name that isn't there, or of a
 ///   file of more than 33,554,432 bytes; with `Failed` only where the fetch failed.
-/// - `CertForm`: exactly where the run comes to bytes that are no certificate, with the first record with which none
-///   begins.
+/// - `CertForm`: exactly where the run comes to bytes that are no certificate, with the first record that no
+///   certificate has there.
 /// - `Write`: only where the put failed.
 /// - `Table`, `Range`, `Order`, `CertTooLong`: never.
 /// - `Memory`: at any call.
