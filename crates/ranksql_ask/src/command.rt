@@ -28,7 +28,7 @@ const DIFFERS: u8 = 10;
 
 /// Does all that the program does: takes the words of the command line without the program's name, looks whether the script makes the
 /// predicates that are asked for, makes ready what the asking needs, runs the words that are left, and puts a line with the counts to
-/// `err` at the end. Answers the exit status.
+/// `err` at the end. Answers the exit status, and gives back the sink of the rows.
 ///
 /// `opens` opens the files of the asking, the known scores are read from `kept`, and script and tables from `files`.
 pub fn command<H: Opens, F: Files, G: Files + Drop, O: Sink, E: Sink>(
@@ -37,22 +37,22 @@ pub fn command<H: Opens, F: Files, G: Files + Drop, O: Sink, E: Sink>(
     opens: &mut H,
     kept: &mut F,
     files: G,
-    out: &mut O,
+    out: O,
     err: &mut E,
-) -> u8
-    ensures { Commands (openings H.questions_to H.answers_from H.scores_in H.refuses) (channel_state H.Questions.state H.Answers.state H.Scores.state) (request_of words.now) (known_state (G.state files)) result
-        (record { opens = opens.old; kept = F.state kept.old; out = O.state out.old; err = E.state err.old })
-        (record { opens = opens.new; kept = F.state kept.new; out = O.state out.new; err = E.state err.new }) }
+) -> (u8, O)
+    ensures { Commands (openings H.questions_to H.answers_from H.scores_in H.refuses) (channel_state H.Questions.state H.Answers.state H.Scores.state) (request_of words.now) (known_state (G.state files)) result.0
+        (record { opens = opens.old; kept = F.state kept.old; out = O.state out; err = E.state err.old })
+        (record { opens = opens.new; kept = F.state kept.new; out = O.state result.1; err = E.state err.new }) }
 {
     match request_of(alloc, words) {
         Ok(Some(request)) => answer(alloc, request, opens, kept, files, out, err),
         Ok(None) => {
             drop(files);
-            refuse(alloc, &AskFault::Usage, err)
+            (refuse(alloc, &AskFault::Usage, err), out)
         }
         Err(Memory) => {
             drop(files);
-            refuse(alloc, &AskFault::Memory, err)
+            (refuse(alloc, &AskFault::Memory, err), out)
         }
     }
 }
@@ -64,12 +64,12 @@ fn answer<H: Opens, F: Files, G: Files + Drop, O: Sink, E: Sink>(
     opens: &mut H,
     kept: &mut F,
     files: G,
-    out: &mut O,
+    out: O,
     err: &mut E,
-) -> u8
-    ensures { Commands (openings H.questions_to H.answers_from H.scores_in H.refuses) (channel_state H.Questions.state H.Answers.state H.Scores.state) (Some (request_made request.entry)) (known_state (G.state files)) result
-        (record { opens = opens.old; kept = F.state kept.old; out = O.state out.old; err = E.state err.old })
-        (record { opens = opens.new; kept = F.state kept.new; out = O.state out.new; err = E.state err.new }) }
+) -> (u8, O)
+    ensures { Commands (openings H.questions_to H.answers_from H.scores_in H.refuses) (channel_state H.Questions.state H.Answers.state H.Scores.state) (Some (request_made request.entry)) (known_state (G.state files)) result.0
+        (record { opens = opens.old; kept = F.state kept.old; out = O.state out; err = E.state err.old })
+        (record { opens = opens.new; kept = F.state kept.new; out = O.state result.1; err = E.state err.new }) }
 {
     let Request {
         names,
@@ -92,8 +92,8 @@ fn answer<H: Opens, F: Files, G: Files + Drop, O: Sink, E: Sink>(
         &mut script.files,
     ) {
         Ok(None) => make_ready(alloc, names, ends, &mut script, opens, kept, out, err),
-        Ok(Some(name)) => refuse(alloc, &AskFault::NoPredicate(name), err),
-        Err(Memory) => refuse(alloc, &AskFault::Memory, err),
+        Ok(Some(name)) => (refuse(alloc, &AskFault::NoPredicate(name), err), out),
+        Err(Memory) => (refuse(alloc, &AskFault::Memory, err), out),
     }
 }
 
@@ -105,12 +105,12 @@ fn make_ready<R: Rerun, H: Opens, F: Files, O: Sink, E: Sink>(
     runs: &mut R,
     opens: &mut H,
     kept: &mut F,
-    out: &mut O,
+    out: O,
     err: &mut E,
-) -> u8
-    ensures { Readies (openings H.questions_to H.answers_from H.scores_in H.refuses) (channel_state H.Questions.state H.Answers.state H.Scores.state) R.ran names.items (end_words ends.entry) result runs.old runs.new
-        (record { opens = opens.old; kept = F.state kept.old; out = O.state out.old; err = E.state err.old })
-        (record { opens = opens.new; kept = F.state kept.new; out = O.state out.new; err = E.state err.new }) }
+) -> (u8, O)
+    ensures { Readies (openings H.questions_to H.answers_from H.scores_in H.refuses) (channel_state H.Questions.state H.Answers.state H.Scores.state) R.ran names.items (end_words ends.entry) result.0 runs.old runs.new
+        (record { opens = opens.old; kept = F.state kept.old; out = O.state out; err = E.state err.old })
+        (record { opens = opens.new; kept = F.state kept.new; out = O.state result.1; err = E.state err.new }) }
 {
     match prepare(alloc, names, ends, opens, kept) {
         Ok(mut prepared) => obey(
@@ -121,7 +121,7 @@ fn make_ready<R: Rerun, H: Opens, F: Files, O: Sink, E: Sink>(
             out,
             err,
         ),
-        Err(why) => refuse(alloc, &AskFault::of(ends, why), err),
+        Err(why) => (refuse(alloc, &AskFault::of(ends, why), err), out),
     }
 }
 
@@ -131,19 +131,21 @@ fn obey<R: Rerun, Q: Sink, A: Answers, K: Sink, O: Sink, E: Sink>(
     runs: &mut R,
     known: &mut KnownScores,
     channel: &mut Channel<Q, A, K>,
-    out: &mut O,
+    out: O,
     err: &mut E,
-) -> u8
-    ensures { Obeys R.ran result runs.old known.old runs.new known.new
-        (record { channel = channel_state Q.state A.state K.state channel.old; out = O.state out.old })
-        (record { channel = channel_state Q.state A.state K.state channel.new; out = O.state out.new })
+) -> (u8, O)
+    ensures { Obeys R.ran result.0 runs.old known.old runs.new known.new
+        (record { channel = channel_state Q.state A.state K.state channel.old; out = O.state out })
+        (record { channel = channel_state Q.state A.state K.state channel.new; out = O.state result.1 })
         (E.state err.old) (E.state err.new) }
 {
     let before = known.len();
-    match ask_and_run(alloc, runs, known, channel, out) {
+    let (ended, out) = ask_and_run(alloc, runs, known, channel, out);
+    let status = match ended {
         Ok(asked) => tell_end(alloc, &asked, before, err),
         Err(stop) => tell_stop(&stop, err),
-    }
+    };
+    (status, out)
 }
 
 /// Puts the line of how the last run ended, and the line with the counts.

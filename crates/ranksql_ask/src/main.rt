@@ -25,21 +25,23 @@ fn main(rt: HostRuntime) -> ExitCode {
     let alloc = rt.alloc();
     // Before any file is opened.
     let _streams = ClosedStreams::hold(&rt);
-    let mut out = OutSink::output(&rt);
     let mut err = OutSink::error(&rt);
     let Ok(hash_keys) = RandomState::new(&rt) else {
         return exit_code(no_memory(&mut err));
     };
     match command_line(alloc, env::args(&rt)) {
-        Ok(words) => ExitCode::from(command::command(
-            alloc,
-            &words,
-            &mut DirEnds::new(&rt),
-            &mut DirFiles::new(&rt, hash_keys),
-            DirFiles::new(&rt, hash_keys),
-            &mut out,
-            &mut err,
-        )),
+        Ok(words) => {
+            let (status, _out) = command::command(
+                alloc,
+                &words,
+                &mut DirEnds::new(&rt),
+                &mut DirFiles::new(&rt, hash_keys),
+                DirFiles::new(&rt, hash_keys),
+                OutSink::output(&rt),
+                &mut err,
+            );
+            ExitCode::from(status)
+        }
         Err(Memory) => exit_code(no_memory(&mut err)),
     }
 }

@@ -1,17 +1,14 @@
 -- What was put, over several puts.
-use Rattle.std.proofs.Common.{◌≡◌, ◌∙◌, Bool, true, false, inl, inr, List, [], ◌∷◌, ◌++◌, ℕ, Option, Some, Result, Ok, Err, ap, append-nil, append_assoc, refl, sym}
+use Rattle.std.proofs.Common.{◌≡◌, ◌∙◌, List, [], ◌∷◌, ◌++◌, ℕ, Option, Some, Result, Ok, Err, ap, append-nil, refl, sym}
 use Rattle.std.specs.List.{concat}
 use Rattle.std.specs.Prelude.{option_map}
 use Rattle.std.proofs.lemmas.List.Folds.{concat-append}
 use Rattle.rs_events.proofs.RanFacts.{told-more, told-none}
-use Rattle.rs_outside.specs.Sink.{IsPrefix, Puts}
+use Rattle.rs_outside.specs.Sink.{Puts}
 use Rattle.rs_outside.specs.declared.sink.SinkFault.{SinkFault}
 use Rattle.rs_outside.specs.declared.sink.SinkFault.TheVariants as sink
 use Rattle.rs_value.specs.Outside.{Outside}
-use Rattle.rs_ask.specs.Asking.{PutsAll, PutsAndPart, PutsBytes}
-use Rattle.rs_ask.specs.Stops.{StopsAt, stop_of}
-use Rattle.rs_ask.specs.declared.stop.Stop.{Stop}
-use Rattle.rs_ask.specs.declared.stop.Stop.TheVariants as stop
+use Rattle.rs_ask.specs.Putting.{PutsAll, PutsAndPart, PutsBytes}
 
 abbrev pub Pieces : Type 0
 Pieces = Outside (List (List ℕ))
@@ -56,32 +53,10 @@ PutsBytes-then xs ys old middle new first more = record {
 pub PutsBytes-one : (bytes : List ℕ) (old new : Pieces) → Puts bytes (Ok tt) old.told new.told → PutsBytes bytes old new
 PutsBytes-one bytes old new puts = record { pieces = bytes ∷ []; put = puts; are = append-nil bytes }
 
--- a put of what is new that didn't go well
-pub PutsBytes-fault : (shown new all : List ℕ) (fault : SinkFault) (lacked : Bool) (before after : Pieces) → all ≡ shown ++ new → Puts new (Err fault) before.told after.told
-    → (bytes : List ℕ) × PutsBytes bytes before after × StopsAt (stop_of fault) lacked (shown ++ bytes) all
-PutsBytes-fault shown new all sink.Failed lacked before after is puts = (
-  puts.0,
-  record { pieces = puts.0 ∷ []; put = puts.2; are = append-nil puts.0 },
-  record { rest = puts.1.rest; split = is ∙ ap (λ zs. shown ++ zs) puts.1.split ∙ sym (append_assoc shown puts.0 puts.1.rest) },
-)
-PutsBytes-fault shown new all sink.Memory lacked before after is puts = (
-  [],
-  record { pieces = []; put = puts ∙ told-none before.told; are = refl },
-  inl (record { rest = new; split = is ∙ ap (λ zs. zs ++ new) (sym (append-nil shown)) }),
-)
+-- a part of one, whose put failed
+pub PutsBytes-part : (bytes : List ℕ) (old new : Pieces) (puts : Puts bytes (Err sink.Failed) old.told new.told) → PutsBytes puts.0 old new
+PutsBytes-part bytes old new puts = record { pieces = puts.0 ∷ []; put = puts.2; are = append-nil puts.0 }
 
--- where a run differs, nothing of it was put
-pub PutsBytes-differs : (shown all : List ℕ) (lacked : Bool) (sink : Pieces) → lacked ≡ false → ((rest : List ℕ) → all ≡ shown ++ rest → ⊥)
-    → (bytes : List ℕ) × PutsBytes bytes sink sink × StopsAt stop.Differs lacked (shown ++ bytes) all
-PutsBytes-differs shown all lacked sink had differs =
-    ([], PutsBytes-none sink, (had, λ (prefix : IsPrefix (shown ++ []) all). differs prefix.rest (prefix.split ∙ ap (λ zs. zs ++ prefix.rest) (append-nil shown))))
-
--- nor where a run lacked memory
-pub PutsBytes-lacked : (shown all : List ℕ) (lacked : Bool) (sink : Pieces) → lacked ≡ true → (bytes : List ℕ) × PutsBytes bytes sink sink × StopsAt stop.Memory lacked (shown ++ bytes) all
-PutsBytes-lacked shown all lacked sink is = ([], PutsBytes-none sink, inr is)
-
--- all of a run was put, and it was stopped behind it
-pub StopsAt-whole : (why : Stop) (lacked : Bool) (whole : List ℕ) → (why ≡ stop.Differs → ⊥) → StopsAt why lacked whole whole
-StopsAt-whole stop.Differs lacked whole ne = absurd (ne refl)
-StopsAt-whole stop.Write lacked whole ne = record { rest = []; split = sym (append-nil whole) }
-StopsAt-whole stop.Memory lacked whole ne = inl (record { rest = []; split = sym (append-nil whole) })
+-- nothing, where there was no memory
+pub PutsBytes-kept : (bytes : List ℕ) (old new : Pieces) → Puts bytes (Err sink.Memory) old.told new.told → PutsBytes [] old new
+PutsBytes-kept bytes old new puts = record { pieces = []; put = puts ∙ told-none old.told; are = refl }

@@ -1,49 +1,61 @@
-ghost use Rattle.std.specs.Prelude.{◌≡◌, ◌≢◌, ◌∷◌, [], ◌+◌, IfErr, IfOk, IfSome, MatchOption, None, OnErr, OnOk, Some, length};
-ghost use Rattle.std.specs.Bool.{MatchBool};
-ghost use Rattle.rs_value.specs.Outside.{Faulted, Keeps};
+ghost use Rattle.std.specs.Prelude.{◌≡◌, ◌∷◌, ◌+◌, [], IfErr, IfOk, IfSome, None, OnErr, OnOk, Some, length};
+ghost use Rattle.rs_value.specs.Outside.{Keeps};
 ghost use Rattle.rs_scores.specs.Known.{score_of};
-ghost use Rattle.rs_ask.specs.Answers.{ReadsAnswer};
-ghost use Rattle.rs_ask.specs.Asking.{Answered, AskStops, HasNoAnswer, Learns, NotAnswered, PutsAll, PutsAndPart, channel_state, known_line, question_line};
+ghost use Rattle.rs_ask.specs.Answers.{score_in};
+ghost use Rattle.rs_ask.specs.Putting.{PutsAll, PutsAndPart};
+ghost use Rattle.rs_scores.specs.Lines.{known_line, question_line};
+ghost use Rattle.rs_ask.specs.Asking.{AskStops, GivesAnswer, KeepStops, Learns, Replies, channel_state};
 
 use crate::answer::read_answer;
 use crate::answers::Answers;
 use crate::channel::Channel;
+use crate::no_answer::NoAnswer;
+use crate::pass::Pass;
 use crate::stop::Stop;
 use rs_outside::{Sink, SinkFault};
 use rs_scores::{KnownScore, KnownScores, Question};
+use rs_value::List;
 use std::alloc::Global;
 
-/// Asks for the score of the question that is missing, reads the answer, keeps it, and adds it to the table. Says whether there was
-/// a question with an answer.
+/// Whether a question was asked and its score learned.
+#[derive(Debug, Drop)]
+pub(crate) enum Reply {
+    /// There was no question.
+    Nothing,
+    Learned,
+    Unanswered(NoAnswer),
+}
+
+/// Asks for the score of the question that is missing, reads the answer, keeps it, and adds it to the table.
 pub(crate) fn ask<Q: Sink, A: Answers, K: Sink>(
     alloc: Global,
-    missing: &Option<Question>,
+    pass: &Pass,
     known: &mut KnownScores,
     channel: &mut Channel<Q, A, K>,
-) -> Result<bool, Stop>
-    requires { IfSome missing.now (λ question. score_of question known.old ≡ None) }
-    ensures ok { IfOk result (λ answered. MatchBool answered
-        (Answered missing.now known.old known.new (channel_state Q.state A.state K.state channel.old) (channel_state Q.state A.state K.state channel.new))
-        (NotAnswered missing.now known.old known.new (channel_state Q.state A.state K.state channel.old) (channel_state Q.state A.state K.state channel.new))) }
-    ensures err { IfErr result (λ stop. AskStops missing.now stop known.old known.new
+) -> Result<Reply, Stop>
+    requires { IfSome pass.now.missing (λ question. score_of question known.old ≡ None) }
+    ensures ok { IfOk result (λ reply. Replies pass.now.missing pass.now.most reply known.old known.new
+        (channel_state Q.state A.state K.state channel.old) (channel_state Q.state A.state K.state channel.new)) }
+    ensures err { IfErr result (λ stop. AskStops pass.now.missing pass.now.most stop known.old known.new
         (channel_state Q.state A.state K.state channel.old) (channel_state Q.state A.state K.state channel.new)) }
 {
-    let Some(question) = missing else {
-        return Ok(false);
+    let Some(question) = &pass.missing else {
+        return Ok(Reply::Nothing);
     };
     let question = question.copy()?;
     match answer_to(
         alloc,
         &question,
+        pass.most,
         &mut channel.questions,
         &mut channel.answers,
     )? {
-        Some(score) => {
+        Ok(score) => {
             let entry = KnownScore { question, score };
             keep(alloc, entry, known, &mut channel.scores)?;
-            Ok(true)
+            Ok(Reply::Learned)
         }
-        None => Ok(false),
+        Err(why) => Ok(Reply::Unanswered(why)),
     }
 }
 
@@ -51,24 +63,38 @@ pub(crate) fn ask<Q: Sink, A: Answers, K: Sink>(
 fn answer_to<Q: Sink, A: Answers>(
     alloc: Global,
     question: &Question,
+    most: u32,
     questions: &mut Q,
     answers: &mut A,
-) -> Result<Option<i64>, Stop>
-    ensures ok { IfOk result (λ answer. MatchOption answer
-        (HasNoAnswer question.now (Q.state questions.old) (Q.state questions.new) (A.state answers.old) (A.state answers.new))
-        (λ score. PutsAll (question_line question.now ∷ []) (Q.state questions.old) (Q.state questions.new)
-        × ReadsAnswer (Some score) (A.state answers.old).told (A.state answers.new).told)) }
-    ensures err { IfErr result (λ stop. (stop ≡ Stop.Memory) × (A.state answers.new ≡ A.state answers.old)) }
-    ensures asked { PutsAndPart [] (Some (question_line question.now)) (Q.state questions.old) (Q.state questions.new) }
+) -> Result<Result<i64, NoAnswer>, Stop>
+    ensures ok { IfOk result (λ answer. GivesAnswer question.now most answer (Q.state questions.old) (Q.state questions.new) (A.state answers.old) (A.state answers.new)) }
+    ensures err { IfErr result (λ stop. (stop ≡ Stop.Memory) × (A.state answers.new ≡ A.state answers.old)
+        × PutsAndPart [] (Some (question_line question.now)) (Q.state questions.old) (Q.state questions.new)) }
     ensures asks { Keeps (Q.state questions.old) (Q.state questions.new) }
     ensures reads { Keeps (A.state answers.old) (A.state answers.new) }
 {
     let line = question.line(alloc)?;
     match questions.put(&line) {
-        Ok(()) => Ok(read_answer(answers)),
+        Ok(()) => Ok(score_in(read_answer(answers), most)),
         // Who answers reads no more.
-        Err(SinkFault::Failed) => Ok(None),
+        Err(SinkFault::Failed) => Ok(Err(NoAnswer::Unasked)),
         Err(SinkFault::Memory) => Err(Stop::Memory),
+    }
+}
+
+/// An answer as a score of a predicate, whose greatest score is this.
+fn score_in(answer: Result<i64, NoAnswer>, most: u32) -> Result<i64, NoAnswer>
+    ensures { result ≡ score_in most answer }
+{
+    match answer {
+        Ok(number) => {
+            if 0 <= number && number <= i64::from(most) {
+                Ok(number)
+            } else {
+                Err(NoAnswer::OutOfRange(number))
+            }
+        }
+        Err(why) => Err(why),
     }
 }
 
@@ -84,13 +110,15 @@ fn keep<K: Sink>(
     ensures count { OnOk result (length known.new.scores ≡ length known.old.scores + 1) }
     ensures kept { OnOk result (PutsAll (known_line entry ∷ []) (K.state scores.old) (K.state scores.new)) }
     ensures same { OnErr result (known.new ≡ known.old) }
-    ensures not_differs { IfErr result (λ stop. stop ≢ Stop.Differs) }
-    ensures write { IfErr result (λ stop. stop ≡ Stop.Write → Faulted (K.state scores.old) (K.state scores.new)) }
-    ensures part { PutsAndPart [] (Some (known_line entry)) (K.state scores.old) (K.state scores.new) }
+    ensures stops { IfErr result (λ stop. KeepStops stop (known_line entry) (K.state scores.old) (K.state scores.new)) }
     ensures keeps { Keeps (K.state scores.old) (K.state scores.new) }
 {
     let line = entry.line(alloc)?;
-    scores.put(&line)?;
+    match scores.put(&line) {
+        Ok(()) => {}
+        Err(SinkFault::Failed) => return Err(Stop::Lost(List::of(line))),
+        Err(SinkFault::Memory) => return Err(Stop::Memory),
+    }
     known.add(entry.question, entry.score)?;
     Ok(())
 }

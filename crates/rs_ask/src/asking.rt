@@ -1,58 +1,118 @@
 ghost use Rattle.std.specs.Prelude.{◌≡◌, IfErr, IfOk};
+ghost use Rattle.rs_ask.specs.PutRows.{no_rows};
 ghost use Rattle.rs_ask.specs.Asking.{AskingState, Ends, StopsAfter, channel_state};
 
-use crate::answering::ask;
+use crate::answering::{Reply, ask};
 use crate::answers::Answers;
 use crate::asked::Asked;
 use crate::channel::Channel;
+use crate::new_rows::{Began, NewRows};
 use crate::pass::Rerun;
-use crate::rows::put_new;
+use crate::run_once::run_once;
 use crate::stop::Stop;
 use rs_outside::Sink;
 use rs_scores::KnownScores;
 use std::alloc::Global;
+use std::marker::Brand;
 
 /// Runs over the known scores. Where a run misses a score it asks for it, reads the answer, keeps it, and runs again. What a run
-/// puts beyond what was put before goes to `out` at once. Ends with the first run that misses no score, or whose question has no
-/// answer: then its put failed, or a read of the answers, or the next line of the answers isn't there or has no number.
+/// puts beyond what was put before goes to `out` at once, and is held. Ends with the first run that misses no score, or whose
+/// question has no answer: then its put failed, or a read of the answers, or the next line of the answers isn't there, is too long,
+/// has no number, or has one that is no score of the predicate. An answer is kept before it is used, and one that is no score isn't
+/// kept.
+///
+/// # Errors
+///
+/// - `Differs`: exactly where a run puts something else than was put before in its place, or less, though it had memory.
+/// - `Write`: exactly where a put to `out` failed.
+/// - `Lost`: exactly where the put of a score that was read failed. It tells the score's line.
+/// - `Memory`: at any call. All that was put begins what the last run puts, or that run lacked memory and nothing was put of it.
+///
+/// The sink of the rows is given back.
 pub fn ask_and_run<R: Rerun, Q: Sink, A: Answers, K: Sink, O: Sink>(
     alloc: Global,
     runs: &mut R,
     known: &mut KnownScores,
     channel: &mut Channel<Q, A, K>,
-    out: &mut O,
+    out: O,
+) -> (Result<Asked, Stop>, O)
+    ensures ok { IfOk result.0 (λ asked. Ends R.ran asked runs.old known.old runs.new known.new
+        (record { channel = channel_state Q.state A.state K.state channel.old; out = O.state out })
+        (record { channel = channel_state Q.state A.state K.state channel.new; out = O.state result.1 })) }
+    ensures err { IfErr result.0 (λ stop. StopsAfter R.ran stop runs.old known.old runs.new known.new
+        (record { channel = channel_state Q.state A.state K.state channel.old; out = O.state out })
+        (record { channel = channel_state Q.state A.state K.state channel.new; out = O.state result.1 })) }
+{
+    begin::<R, Q, A, K, O, Brand>(alloc, runs, known, channel, out)
+}
+
+/// The same, where proofs know what stood in the sink at first.
+fn begin<R: Rerun, Q: Sink, A: Answers, K: Sink, O: Sink, B: Began>(
+    alloc: Global,
+    runs: &mut R,
+    known: &mut KnownScores,
+    channel: &mut Channel<Q, A, K>,
+    out: O,
+) -> (Result<Asked, Stop>, O)
+    requires { B.out ≡ O.state out }
+    ensures ok { IfOk result.0 (λ asked. Ends R.ran asked runs.old known.old runs.new known.new
+        (record { channel = channel_state Q.state A.state K.state channel.old; out = B.out })
+        (record { channel = channel_state Q.state A.state K.state channel.new; out = O.state result.1 })) }
+    ensures err { IfErr result.0 (λ stop. StopsAfter R.ran stop runs.old known.old runs.new known.new
+        (record { channel = channel_state Q.state A.state K.state channel.old; out = B.out })
+        (record { channel = channel_state Q.state A.state K.state channel.new; out = O.state result.1 })) }
+{
+    let mut rows = NewRows::<O, B>::new(alloc, out);
+    let asked = ask_all(alloc, runs, known, channel, &mut rows);
+    (asked, rows.into_out())
+}
+
+/// Runs and asks, until a run misses nothing, its question has no answer, or it is stopped.
+fn ask_all<R: Rerun, Q: Sink, A: Answers, K: Sink, O: Sink, B: Began>(
+    alloc: Global,
+    runs: &mut R,
+    known: &mut KnownScores,
+    channel: &mut Channel<Q, A, K>,
+    rows: &mut NewRows<O, B>,
 ) -> Result<Asked, Stop>
+    requires { rows.old.rows ≡ no_rows }
     ensures ok { IfOk result (λ asked. Ends R.ran asked runs.old known.old runs.new known.new
-        (record { channel = channel_state Q.state A.state K.state channel.old; out = O.state out.old })
-        (record { channel = channel_state Q.state A.state K.state channel.new; out = O.state out.new })) }
+        (record { channel = channel_state Q.state A.state K.state channel.old; out = B.out })
+        (record { channel = channel_state Q.state A.state K.state channel.new; out = O.state rows.new.out })) }
     ensures err { IfErr result (λ stop. StopsAfter R.ran stop runs.old known.old runs.new known.new
-        (record { channel = channel_state Q.state A.state K.state channel.old; out = O.state out.old })
-        (record { channel = channel_state Q.state A.state K.state channel.new; out = O.state out.new })) }
+        (record { channel = channel_state Q.state A.state K.state channel.old; out = B.out })
+        (record { channel = channel_state Q.state A.state K.state channel.new; out = O.state rows.new.out })) }
 {
     let before = known.len();
     let mut answers = 0;
-    let mut pass = runs.rerun(alloc, known);
-    if let Err(stop) = put_new(b"", pass.out.bytes(), pass.lacked_memory, out) {
-        drop(pass);
-        return Err(stop);
-    }
+    let mut pass = run_once(alloc, runs, known, rows)?;
     loop {
-        match ask(alloc, &pass.missing, known, channel) {
-            Ok(true) => {}
-            Ok(false) => return Ok(Asked { pass, answers }),
+        match ask(alloc, &pass, known, channel) {
+            Ok(Reply::Learned) => {}
+            Ok(Reply::Nothing) => {
+                return Ok(Asked {
+                    pass,
+                    answers,
+                    unanswered: None,
+                });
+            }
+            Ok(Reply::Unanswered(why)) => {
+                return Ok(Asked {
+                    pass,
+                    answers,
+                    unanswered: Some(why),
+                });
+            }
             Err(stop) => {
                 drop(pass);
                 return Err(stop);
             }
         }
         answers = known.len() - before;
-        let next = runs.rerun(alloc, known);
-        let put = put_new(pass.out.bytes(), next.out.bytes(), next.lacked_memory, out);
         drop(pass);
-        if let Err(stop) = put {
-            drop(next);
-            return Err(stop);
+        match run_once(alloc, runs, known, rows) {
+            Ok(next) => pass = next,
+            Err(stop) => return Err(stop),
         }
-        pass = next;
     }
 }

@@ -1,28 +1,15 @@
-use rs_outside::SinkFault;
-use rs_value::Memory;
+use rs_value::{List, Memory};
 
 /// What stops it beside the end of a run.
-#[derive(Clone, Copy, Debug, PartialEq, Eq)]
+#[derive(Debug, Drop)]
 pub enum Stop {
     /// A run over more scores didn't begin with what was put already, though it had memory.
     Differs,
-    /// A put of rows, or of a score that is to be kept, failed.
+    /// A put of rows failed.
     Write,
+    /// The put of this line failed, which is that of a score that was read. So it isn't kept, or only a part of it.
+    Lost(List<u8>),
     Memory,
-}
-
-impl From<SinkFault> for Stop {
-    ghost use Rattle.std.specs.Prelude.{◌≡◌};
-    ghost use Rattle.rs_ask.specs.Stops.{stop_of};
-
-    ghost from_gives = { λ why stop. stop ≡ stop_of why };
-
-    fn from(why: SinkFault) -> Stop {
-        match why {
-            SinkFault::Failed => Stop::Write,
-            SinkFault::Memory => Stop::Memory,
-        }
-    }
 }
 
 impl From<Memory> for Stop {

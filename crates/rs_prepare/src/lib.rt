@@ -6,6 +6,7 @@
 
 mod dir_ends;
 mod fault;
+mod lockable;
 mod node;
 mod open_fault;
 mod opens;
@@ -15,6 +16,7 @@ mod seen;
 
 pub use dir_ends::DirEnds;
 pub use fault::PrepareFault;
+pub use lockable::Lockable;
 pub use open_fault::{End, OpenFault, Stream};
 pub use opens::Opens;
 pub use questions::Questions;

@@ -13,17 +13,18 @@ use Rattle.rs_scores.specs.Questions.{question_of}
 use Rattle.rs_scores.specs.declared.table_scorer.Answer.{Answer}
 use Rattle.rs_scores.specs.declared.table_scorer.Answer.TheVariants.{Score, Missing}
 
--- what is known, the calls so far, how many they were, the question of the last one where it failed, and how many failed
+-- what is known, the calls so far, how many they were, the question of the last one where it failed, the greatest score of its predicate, and how many failed
 pub record TableScorerState : Type 0 where
   pub known : Known
   pub calls : List Call
   pub count : ℕ
   pub missing : Option (List (List ℕ))
+  pub most : ℕ
   pub faults : ℕ
 
 -- no call yet
 abbrev pub new_scorer : Known → TableScorerState
-new_scorer known = record { known = known; calls = []; count = 0; missing = None; faults = 0 }
+new_scorer known = record { known = known; calls = []; count = 0; missing = None; most = 0; faults = 0 }
 
 -- what is answered for a question whose score is this, where it is known
 abbrev pub or_missing : List (List ℕ) → Option ℤ → Answer
@@ -54,13 +55,20 @@ missing_after call (Ok score) missing = None
 missing_after call (Err Failed) missing = Some (question_of call)
 missing_after call (Err Memory) missing = missing
 
--- the state after a call with this answer
-abbrev pub after_score : Call → Result ℤ ScorerFault → TableScorerState → TableScorerState
-after_score call result state = record {
+-- the greatest score of the predicate of the last call after one more with this answer
+abbrev pub most_after : ℕ → Result ℤ ScorerFault → ℕ → ℕ
+most_after max (Ok score) most = max
+most_after max (Err Failed) most = max
+most_after max (Err Memory) most = most
+
+-- the state after a call, of a predicate with this greatest score, with this answer
+abbrev pub after_score : Call → ℕ → Result ℤ ScorerFault → TableScorerState → TableScorerState
+after_score call max result state = record {
   known = state.known;
   calls = calls_after call result state.calls;
   count = count_after result state.count;
   missing = missing_after call result state.missing;
+  most = most_after max result state.most;
   faults = faults_after result state.faults;
 }
 

@@ -22,13 +22,14 @@ enum Answer {
 
 /// A scorer over a table of known scores. It answers a call of a predicate that is asked for outside by its known score, and
 /// fails where none is known; for each other call it answers the value of the predicate's formula. It keeps the calls, and
-/// the question of the last one where that one failed.
+/// the question of the last one where that one failed, and the greatest score of its predicate.
 #[derive(Drop)]
 pub struct TableScorer<'a> {
     known: &'a KnownScores,
     calls: Vec<Call>,
     count: u64,
     missing: Option<Question>,
+    most: u32,
     faults: u64,
 }
 
@@ -42,6 +43,7 @@ impl<'a> Model for TableScorer<'a> {
       calls = s.calls.items;
       count = s.count;
       missing = s.missing;
+      most = s.most;
       faults = s.faults;
     } };
 
@@ -50,6 +52,7 @@ impl<'a> Model for TableScorer<'a> {
       calls = s.calls.items;
       count = s.count;
       missing = s.missing;
+      most = s.most;
       faults = s.faults;
     }) };
 }
@@ -95,6 +98,7 @@ impl<'a> TableScorer<'a> {
             calls: Vec::new(alloc),
             count: 0,
             missing: None,
+            most: 0,
             faults: 0,
         }
     }
@@ -121,11 +125,19 @@ impl<'a> TableScorer<'a> {
         self.missing
     }
 
+    /// The greatest score of the predicate of the last call, or 0 where there was none.
+    pub fn most(&self) -> u32
+        ensures { result ≡ self.now.most }
+    {
+        self.most
+    }
+
     /// Adds a call with its answer, of which nothing is kept where there is no memory.
     fn add(
         &mut self,
         predicate: &Text,
         args: &[Value],
+        most: u32,
         missing: Option<Question>,
     ) -> Result<(), Memory>
         requires { let call : Call = record { predicate = predicate.now; args = args.now } in missing ≡ missing_for self.old.known call }
@@ -133,6 +145,7 @@ impl<'a> TableScorer<'a> {
           calls = self.old.calls ++ record { predicate = predicate.now; args = args.now } ∷ [];
           count = raised self.old.count;
           missing = missing;
+          most = most;
           faults = (if is_some missing then raised self.old.faults else self.old.faults);
         }) }
         ensures err { OnErr result (self.new ≡ self.old) }
@@ -142,6 +155,7 @@ impl<'a> TableScorer<'a> {
         self.count = self.count.saturating_add(1);
         self.faults = faults_after(missing.is_some(), self.faults);
         self.missing = missing;
+        self.most = most;
         Ok(())
     }
 }
@@ -160,7 +174,7 @@ impl<'a> Scorer for TableScorer<'a> {
 
         // The answer, which only want of memory can replace, and what the call leaves.
         ensures answer { Gives ScorerFault.Memory (score_answer (answer_of self.old.known predicate.now args.now)) result }
-        ensures after { self.new ≡ after_score (call_of predicate.now args.now) result self.old }
+        ensures after { self.new ≡ after_score (call_of predicate.now args.now) predicate.now.max result self.old }
     {
         let answer = match answer_for(*self.calls.allocator(), self.known, predicate, args) {
             Ok(answer) => answer,
@@ -170,7 +184,7 @@ impl<'a> Scorer for TableScorer<'a> {
             Answer::Score(score) => (Ok(score), None),
             Answer::Missing(question) => (Err(ScorerFault::Failed), Some(question)),
         };
-        match self.add(predicate.name(), args, missing) {
+        match self.add(predicate.name(), args, predicate.max(), missing) {
             Ok(()) => result,
             Err(_) => Err(ScorerFault::Memory),
         }
