@@ -26,8 +26,18 @@ class Item:
         return [span for span in SPAN.findall(self.text) if CALL.match(span)] if not self.answers else []
 
 
+FAILS = re.compile(r"(Result|Option)<")
+
+
+def answer_of(function):
+    """The type of the answer; of several values that are answered together, the first one that can be a fault or none."""
+    answer = function.answer
+    parts = parts_of(answer[1:-1]) if answer.startswith("(") else [answer]
+    return next((part for part in parts if FAILS.match(part)), answer)
+
+
 def can_fail(function):
-    return re.match(r"(Result|Option)<", function.answer) is not None
+    return FAILS.match(answer_of(function)) is not None
 
 
 def has_paragraph(function):
@@ -92,7 +102,7 @@ class Faults:
 
     def answers(self, function, crate):
         """The answers that a call has to tell: each a set of names, of which it suffices to tell all of one of these sets."""
-        wanted, answer = [], function.answer
+        wanted, answer = [], answer_of(function)
         if answer.startswith("Result<"):
             value, *fault = parts_of(answer[len("Result<"):-1])
             wanted += self.of_fault(fault[0] if fault else "", function, crate)

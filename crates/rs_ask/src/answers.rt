@@ -12,6 +12,11 @@ pub trait Answers {
     ghost state: { Self → Outside (List ℕ) };
 
     /// The next byte. There is none at the end, which is no fault.
+    ///
+    /// # Errors
+    ///
+    /// - `None`: where the object tells its bytes and the read doesn't fail, exactly where none is left.
+    /// - `ReadFault`: only where the count of faults rose; of a steady object never.
     fn next_byte(&mut self) -> Result<Option<u8>, ReadFault>
         ensures reads { ReadsByte result (state self.old).told (state self.new).told }
         ensures counts { Counts (IsErr result) (state self.old) (state self.new) };

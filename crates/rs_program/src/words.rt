@@ -8,6 +8,10 @@ use std::env::Args;
 use std::io::{self, ErrorKind};
 
 /// The words of the command line, of which `args` is what the system answers. There are none where one isn't UTF-8.
+///
+/// # Errors
+///
+/// - `Memory`: where the system had none for the arguments, or at any call.
 pub fn command_line(alloc: Global, args: io::Result<Args>) -> Result<Vec<Text>, Memory>
     ensures words { IfOk args (λ args.
         IfOk result (λ words. words.items ≡ map string_bytes (drop 1 (into_iter_items args)))) }
