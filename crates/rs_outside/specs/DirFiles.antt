@@ -2,6 +2,8 @@
 use Rattle.std.specs.Prelude.{ℕ, ◌≡◌, ◌+◌, ◌<◌, ◌≤◌, List, ◌++◌, length, Option, Some, None, IfSome, Result, Ok, Err}
 use Rattle.std.specs.declared.io.ErrorKind.{ErrorKind}
 use Rattle.std.specs.declared.io.ErrorKind.TheVariants.{NotFound, OutOfMemory}
+use Rattle.rs_outside.specs.declared.answered.Answered.{Answered}
+use Rattle.rs_outside.specs.declared.answered.Answered.TheVariants.{Open, Read}
 use Rattle.rs_outside.specs.declared.files.FetchFault.{FetchFault}
 use Rattle.rs_outside.specs.declared.files.FetchFault.TheVariants.{Missing, TooLong, Failed, Memory}
 use Rattle.std.specs.Io.KnownBytes.{Consumes}
@@ -49,9 +51,19 @@ ComesOf (Some (Ok count)) (Err Failed) = ⊥
 abbrev pub ConsumesAtMost : ℕ → Option (List ℕ) → Option (List ℕ) → Type 0
 ConsumesAtMost most old new = (bytes : List ℕ) × Consumes old new bytes × (length bytes ≤ most)
 
+-- the answer that comes of what the system said: that the file couldn't be opened, or the last read of it
+abbrev pub AnswersBy : Answered → Result (Unit {0}) FetchFault → Type 0
+AnswersBy (Open kind) result = result ≡ Err (open_fault kind)
+AnswersBy (Read last) result = ComesOf last result
+
+-- how many fetches failed, and what the system answered at the last one
+pub record DirFilesState : Type 0 where
+  pub faults : ℕ
+  pub last : Option Answered
+
 -- what contracts see of the files of the system
-abbrev pub disk_state : ℕ → Outside FilesTold
-disk_state faults = untold faults
+abbrev pub disk_state : DirFilesState → Outside FilesTold
+disk_state files = untold files.faults
 
 -- the count of faults after a fetch with this answer
 abbrev pub faults_after_fetch : Result (Unit {0}) FetchFault → ℕ → ℕ

@@ -28,7 +28,8 @@ pub record FilesTold : Type 0 where
   pub folder : Folder
   pub fetched : List (List ℕ)
 
--- what a fetch answers and appends, where these bytes are there under the name, or no file is
+-- what a fetch answers and appends, where these bytes are there under the name, or no file is. Ok: they are at most
+-- `limit`, and are appended. Missing: no file is. TooLong: they are more. After each fault the buffer is as before
 abbrev pub Fetches : Option (List ℕ) → ℕ → List ℕ → Result (Unit {0}) FetchFault → List ℕ → Type 0
 Fetches there limit old (Ok done) new =
     (bytes : List ℕ) × (there ≡ Some bytes) × (length bytes ≤ limit) × (new ≡ old ++ bytes)

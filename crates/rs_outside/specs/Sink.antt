@@ -8,7 +8,8 @@ pub record IsPrefix (part whole : List ℕ) : Type 0 where
   pub rest : List ℕ
   pub split : whole ≡ part ++ rest
 
--- what a put of these bytes does to the pieces that a sink tells
+-- what a put of these bytes does to the pieces that a sink tells. Ok: one piece more, the bytes. Failed: one piece
+-- more, a prefix of them. Memory: nothing
 abbrev pub Puts : List ℕ → Result (Unit {0}) SinkFault → Option (List (List ℕ)) → Option (List (List ℕ)) → Type 0
 Puts bytes (Ok done) old new = new ≡ option_map (λ pieces. pieces ++ bytes ∷ []) old
 Puts bytes (Err Failed) old new = (part : List ℕ) × IsPrefix part bytes × (new ≡ option_map (λ pieces. pieces ++ part ∷ []) old)

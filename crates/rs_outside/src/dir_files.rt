@@ -1,10 +1,12 @@
-ghost use Rattle.std.specs.Prelude.{◌≡◌, ◌+◌, ℕ, List, Option, Result, Some, IfErr, IfOk, IfSome};
+ghost use Rattle.std.specs.Prelude.{◌≡◌, ◌+◌, ℕ, List, Option, Result, Some, IfErr, IfOk, IfSome, IsSomeAnd};
 ghost use Rattle.std.specs.IoError.{error_kind};
 ghost use Rattle.std.specs.declared.io.Error.{Error};
-ghost use Rattle.rs_outside.specs.DirFiles.{AppendsRest, ComesOf, ConsumesAtMost, disk_state, faults_after_fetch, open_fault, read_fault};
+ghost use Rattle.std.specs.declared.io.ErrorKind.{ErrorKind};
+ghost use Rattle.rs_outside.specs.DirFiles.{AnswersBy, AppendsRest, ComesOf, ConsumesAtMost, disk_state, faults_after_fetch, open_fault, read_fault};
 ghost use Rattle.rs_value.specs.Outside.{Counts};
 ghost use Rattle.rs_outside.specs.Files.{Fetches};
 
+use crate::answered::Answered;
 use crate::files::{FetchFault, Files};
 use crate::reading::Reading;
 use rs_value::Text;
@@ -16,21 +18,22 @@ use std::{fs, io};
 /// How many bytes one read asks for at most.
 const CHUNK: usize = 8192;
 
-/// The files of the system, by their paths; a relative one starts from the current folder.
-/// Contracts see how many fetches failed.
+/// The files of the system, by their paths; a relative one starts from the current folder. Contracts see how many
+/// fetches failed. A name is handed to the system as a path, so it may lead out of the current folder.
 #[derive(Drop)]
 pub struct DirFiles<R> {
     rt: R,
     hash_keys: RandomState,
     faults: u64,
+    last: Option<Answered>,
 }
 
 impl<R> Model for DirFiles<R> {
-    ghost use Rattle.std.specs.Prelude.{ℕ};
+    ghost use Rattle.rs_outside.specs.DirFiles.{DirFilesState};
 
-    ghost Value = { ℕ };
+    ghost Value = { DirFilesState };
 
-    ghost view = { λ d. d.faults };
+    ghost view = { λ d. record { faults = d.faults; last = d.last } };
 }
 
 /// The fault that an error is when a file is opened.
@@ -87,7 +90,12 @@ fn append_rest<F: Read>(
 /// fault `into` is as before. A read that a signal interrupts is tried again.
 ///
 /// # Errors
-/// `TooLong` beyond the limit; `Memory` where the system or this program has none; `Failed` for any other error of a read.
+///
+/// - `TooLong`: where the reader tells its bytes and the answer is neither `Failed` nor `Memory`, exactly where more
+///   than `limit` are left; of any reader only where the last read gave bytes.
+/// - `Failed`: only where the last read failed.
+/// - `Memory`: only where the last read gave bytes, or the system had no memory for it; `into` is as before.
+/// - `Missing`: never.
 pub fn fetch_rest<F: Read>(
     file: &mut Reading<F>,
     limit: usize,
@@ -108,36 +116,47 @@ pub fn fetch_rest<F: Read>(
     Err(fault)
 }
 
-/// What a fetch gives where the file was opened, or was not.
+/// What a fetch gives where the file was opened, or was not, and what the system answered.
 ///
 /// # Errors
-/// Where it was not opened, `Missing` for an error of the kind not found alone, `Memory` where the system has none, and
-/// `Failed` for any other error. Where it was, those of [`fetch_rest`].
+///
+/// - `Missing`: exactly where the file wasn't opened, since the system says that it wasn't found.
+/// - `Failed`: where it wasn't opened, for any other error but want of memory.
+/// - `Memory`: where it wasn't opened, exactly where the system had no memory for that.
+/// - Those of `fetch_rest`: where it was opened.
 pub fn fetch_opened<F: Read + Drop>(
     opened: io::Result<F>,
     limit: usize,
     into: &mut Vec<u8>,
-) -> Result<(), FetchFault>
-    ensures fetches { (there : Option (List ℕ)) × Fetches there limit into.old.items result into.new.items }
-    ensures unopened { IfErr opened (λ error. (result ≡ Err (open_fault (error_kind error))) × (into.new.items ≡ into.old.items)) }
-    ensures opened { IfOk opened (λ file. (left : List ℕ) × IfSome (F.remaining file) (λ told. told ≡ left)
-        × Fetches (Some left) limit into.old.items result into.new.items) }
+) -> (Result<(), FetchFault>, Answered)
+    ensures fetches { (there : Option (List ℕ)) × Fetches there limit into.old.items result.0 into.new.items }
+    ensures unopened { IfErr opened (λ error. (result.1 ≡ Answered.Open (error_kind error)) × (into.new.items ≡ into.old.items)) }
+    ensures opened { IfOk opened (λ file. (last : Option (Result ℕ ErrorKind)) × (result.1 ≡ Answered.Read last)
+        × (left : List ℕ) × IfSome (F.remaining file) (λ told. told ≡ left)
+        × Fetches (Some left) limit into.old.items result.0 into.new.items) }
+    // The answer comes of what the system said.
+    ensures answers { AnswersBy result.1 result.0 }
 {
     match opened {
-        Ok(file) => fetch_rest(&mut Reading::new(file), limit, into),
-        Err(error) => Err(fault_at_open(&error)),
+        Ok(file) => {
+            let mut file = Reading::new(file);
+            let result = fetch_rest(&mut file, limit, into);
+            (result, Answered::Read(file.into_last()))
+        }
+        Err(error) => (Err(fault_at_open(&error)), Answered::Open(error.kind())),
     }
 }
 
 impl<R: std::rt::Files> DirFiles<R> {
     /// The files that this runtime opens, and the keys by which texts of theirs are hashed. Nothing is opened yet.
     pub fn new(rt: R, hash_keys: RandomState) -> DirFiles<R>
-        ensures { result ≡ 0 }
+        ensures { result ≡ record { faults = 0; last = None } }
     {
         DirFiles {
             rt,
             hash_keys,
             faults: 0,
+            last: None,
         }
     }
 }
@@ -149,16 +168,20 @@ impl<R: std::rt::Files> Files for DirFiles<R> {
         ensures fetches { (there : Option (List ℕ)) × Fetches there limit into.old.items result into.new.items }
         ensures counts { Counts (result ≡ Err FetchFault.Failed) (disk_state self.old) (disk_state self.new) }
 
-        // A file was opened, or was not: the answer comes of that, and the bytes of what was opened.
+        // A file was opened, or was not, and the bytes are those of what was opened.
         ensures opened { (opened : Result R.File Error)
-            × IfErr opened (λ error. (result ≡ Err (open_fault (error_kind error))) × (into.new.items ≡ into.old.items))
-            × IfOk opened (λ file. (left : List ℕ) × IfSome (R.File.remaining file) (λ told. told ≡ left)
+            × IfErr opened (λ error. (self.new.last ≡ Some (Answered.Open (error_kind error))) × (into.new.items ≡ into.old.items))
+            × IfOk opened (λ file. (last : Option (Result ℕ ErrorKind)) × (self.new.last ≡ Some (Answered.Read last))
+            × (left : List ℕ) × IfSome (R.File.remaining file) (λ told. told ≡ left)
             × Fetches (Some left) limit into.old.items result into.new.items) }
 
-        // Exactly the fetches that failed are counted.
-        ensures counted { self.new ≡ faults_after_fetch result self.old }
+        // The answer comes of what the system said, and exactly the fetches that failed are counted.
+        ensures answers { IsSomeAnd self.new.last (λ answered. AnswersBy answered result) }
+        ensures counted { self.new.faults ≡ faults_after_fetch result self.old.faults }
     {
-        let Err(fault) = fetch_opened(fs::open(&self.rt, name.as_str()), limit, into) else {
+        let (result, answered) = fetch_opened(fs::open(&self.rt, name.as_str()), limit, into);
+        self.last = Some(answered);
+        let Err(fault) = result else {
             return Ok(());
         };
         if fault == FetchFault::Failed {

@@ -20,7 +20,17 @@ pub trait Files {
     /// none will. A disk tells nothing, and is never steady.
     ghost state: { Self → Outside FilesTold };
 
-    /// Appends the bytes of the file of this name, which are at most `limit`. After a fault `into` is as before.
+    /// Appends the bytes of the file of this name, which are at most `limit`. After a fault `into` is as before. The
+    /// fetch changes no file, and its name joins those that are told.
+    ///
+    /// # Errors
+    ///
+    /// - `Missing`: where the object tells its files and the answer is neither `Failed` nor `Memory`, exactly where
+    ///   none has the name.
+    /// - `TooLong`: where the object tells its files and the answer is neither `Failed` nor `Memory`, exactly where the
+    ///   file has more than `limit` bytes.
+    /// - `Failed`: only where the count of faults rose; of a steady object never.
+    /// - `Memory`: at any call, whose name isn't told.
     fn fetch(&mut self, name: &Text, limit: usize, into: &mut Vec<u8>) -> Result<(), FetchFault>
         // Some bytes are there, or no file is; where the object tells its files, it is the told one.
         ensures fetches { (there : Option (List ℕ)) × IfSome (state self.old).told (λ t. file_named name.now t.folder ≡ there)

@@ -5,6 +5,7 @@
 //! where the object's count of faults rose.
 #![tactic(auto)]
 
+mod answered;
 mod dir_files;
 mod files;
 mod mem_files;
@@ -13,6 +14,7 @@ mod out_sink;
 mod reading;
 mod sink;
 
+pub use answered::Answered;
 pub use dir_files::{DirFiles, fetch_opened, fetch_rest};
 pub use files::{FetchFault, Files};
 pub use mem_files::MemFiles;

@@ -27,6 +27,8 @@ impl Model for MemFile {
 }
 
 /// Files in memory, for tests of what fetches files. It keeps the names that were fetched, and fails where it is told.
+/// A fetch for which there was no memory isn't kept, and has no number among the planned failures. It is steady where
+/// no failure was ever planned.
 #[derive(Debug, Drop)]
 pub struct MemFiles {
     files: Vec<MemFile>,
@@ -104,6 +106,10 @@ impl MemFiles {
     }
 
     /// Holds these bytes under this name: in place of those that are there, or else as a last file.
+    ///
+    /// # Errors
+    ///
+    /// - `Memory`: at any call; nothing changes.
     pub fn add(&mut self, name: Text, bytes: Vec<u8>) -> Result<(), Memory>
         ensures ok { OnOk result (self.new ≡ after_add name bytes.items self.old) }
         ensures err { OnErr result (self.new ≡ self.old) }
@@ -143,6 +149,10 @@ impl MemFiles {
     }
 
     /// Plans that the fetch of this number, counted from 1, fails. Several may be planned.
+    ///
+    /// # Errors
+    ///
+    /// - `Memory`: at any call; nothing changes.
     pub fn fail_at(&mut self, call: u32) -> Result<(), Memory>
         ensures ok { OnOk result (self.new ≡ after_fail_at call self.old) }
         ensures err { OnErr result (self.new ≡ self.old) }

@@ -25,7 +25,9 @@ impl Model for PutFailure {
     ghost view = { λ f. record { call = f.call; after = f.after } };
 }
 
-/// A sink in memory, for tests of what writes. It keeps the pieces that were put, and fails where it is told.
+/// A sink in memory, for tests of what writes. It keeps the pieces that were put, and fails where it is told. A put for
+/// which there was no memory isn't kept, and has no number among the planned failures; one that failed is kept with the
+/// piece that it took, which may be empty. It is steady where no failure was ever planned.
 #[derive(Debug, Drop)]
 pub struct MemSink {
     bytes: Vec<u8>,
@@ -72,6 +74,10 @@ impl MemSink {
 
     /// Plans that the put of this number, counted from 1, takes its first `after` bytes, at most all of them,
     /// and fails. Several may be planned; of two for one put the first counts.
+    ///
+    /// # Errors
+    ///
+    /// - `Memory`: at any call; nothing changes.
     pub fn fail_at(&mut self, call: u32, after: usize) -> Result<(), Memory>
         ensures ok { OnOk result (self.new ≡ after_fail_put_at call after self.old) }
         ensures err { OnErr result (self.new ≡ self.old) }

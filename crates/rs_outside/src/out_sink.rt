@@ -10,7 +10,8 @@ use std::io;
 use std::io::{ErrorKind, Stderr, Stdout, Write};
 use std::marker::Model;
 
-/// A stream of the system. Contracts see its writer, and how many puts failed.
+/// A stream of the system. Contracts see its writer, and how many puts failed. A put whose flush fails has failed, also
+/// where all bytes were written. Each error of the stream is `Failed`, and none is `Memory`.
 #[derive(Drop)]
 pub struct OutSink<W> {
     to: W,

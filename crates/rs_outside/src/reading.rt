@@ -21,6 +21,15 @@ impl<F: Read> Reading<F> {
         Reading { reader, last: None }
     }
 
+    /// What the last read answered.
+    pub(crate) fn into_last(self) -> Option<Result<usize, ErrorKind>>
+    where
+        F: Drop,
+        ensures { result ≡ self.last }
+    {
+        self.last
+    }
+
     /// One read.
     fn read(&mut self, chunk: &mut [u8]) -> io::Result<usize>
         ensures bound { ReadsAtMost result chunk.new }

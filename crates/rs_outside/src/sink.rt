@@ -15,7 +15,13 @@ pub trait Sink {
     /// whether none will. A stream of the system tells nothing, and is never steady.
     ghost state: { Self → Outside (List (List ℕ)) };
 
-    /// Takes the bytes. One that fails has taken a prefix of them, and one for which there is no memory nothing.
+    /// Takes the bytes. One that fails has taken a prefix of them, and one for which there is no memory nothing. The
+    /// bytes join the pieces as one.
+    ///
+    /// # Errors
+    ///
+    /// - `Failed`: only where the count of faults rose; of a steady object never. A prefix of the bytes was taken.
+    /// - `Memory`: at any call; nothing was taken.
     fn put(&mut self, bytes: &[u8]) -> Result<(), SinkFault>
         ensures puts { Puts bytes.now result (state self.old).told (state self.new).told }
         ensures counts { Counts (result ≡ Err SinkFault.Failed) (state self.old) (state self.new) };

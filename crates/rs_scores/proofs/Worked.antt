@@ -6,6 +6,8 @@ use Rattle.rs_value.specs.declared.value.Value.TheVariants.{Int, Text}
 use Rattle.rs_expr.specs.declared.scorer.Call.{Call}
 use Rattle.rs_scores.specs.Known.{Known, is_asked, score_of, score_with}
 use Rattle.rs_scores.specs.KnownFiles.{found_under, found_with}
+use Rattle.csv.specs.Reading.{strip_bom}
+use Rattle.rs_scores.specs.Names.{names_in}
 use Rattle.rs_scores.specs.Questions.{question_of}
 use Rattle.rs_scores.specs.Reading.{is_ended, known_of, scores_from}
 use Rattle.rs_scores.specs.TableScorer.{missing_last}
@@ -71,18 +73,53 @@ no_score : known_of (codes "near" ∷ []) 4 (codes "near" ∷ codes "5" ∷ code
 unfolding values_on_literals
 no_score = refl
 
-twice : scores_from (codes "near" ∷ []) [] ((codes "near" ∷ codes "5" ∷ codes "7" ∷ []) ∷ (codes "near" ∷ codes "5" ∷ codes "8" ∷ []) ∷ []) ≡ Err (Twice 2)
+twice : scores_from (codes "near" ∷ []) 1 [] ((codes "near" ∷ codes "5" ∷ codes "7" ∷ []) ∷ (codes "near" ∷ codes "5" ∷ codes "8" ∷ []) ∷ []) ≡ Err (Twice 2)
 unfolding values_on_literals
 twice = refl
 
+-- a record that stands there twice is taken once, and the records behind it keep their numbers
+once : scores_from (codes "near" ∷ []) 1 [] ((codes "near" ∷ codes "5" ∷ codes "7" ∷ []) ∷ (codes "near" ∷ codes "5" ∷ codes "+7" ∷ []) ∷ (codes "near" ∷ codes "6" ∷ []) ∷ []) ≡ Err (FieldCount 3 2)
+unfolding values_on_literals
+once = refl
+
 ended : is_ended (codes "a\n") ≡ true
+unfolding strip_bom
 ended = refl
 
 cut_off : is_ended (codes "a\n7") ≡ false
+unfolding strip_bom
 cut_off = refl
 
 nothing : is_ended [] ≡ true
+unfolding strip_bom
 nothing = refl
+
+-- a line feed in quotes ends no record, and one behind them does
+quoted : is_ended (codes "a,\"b\n") ≡ false
+unfolding strip_bom
+quoted = refl
+
+closed : is_ended (codes "a,\"b\"\"\n\"\n") ≡ true
+unfolding strip_bom
+closed = refl
+
+-- a quotation mark within a field is a byte of it
+within : is_ended (codes "a,b\"\n") ≡ true
+unfolding strip_bom
+within = refl
+
+-- names in a word
+two_names : names_in (codes "near,far away") ≡ Some (codes "near" ∷ codes "far away" ∷ [])
+two_names = refl
+
+empty_name : names_in (codes "near,") ≡ None
+empty_name = refl
+
+blank_name : names_in (codes "near, far") ≡ None
+blank_name = refl
+
+same_name : names_in (codes "near,far,near") ≡ None
+same_name = refl
 
 -- what was found under a name stays
 found_first : found_under (codes "a") (found_with (codes "a") None (found_with (codes "a") (Some (codes "x")) [])) ≡ Some (record { name = codes "a"; there = Some (codes "x") })

@@ -4,7 +4,7 @@ use std::alloc::AllocFailed;
 /// Why a file holds no known scores. Records and their fields count from 1.
 #[derive(Clone, Copy, Debug, PartialEq, Eq)]
 pub enum KnownFault {
-    /// The file isn't empty and doesn't end with a line feed, so its last record may be a part of one.
+    /// The last record isn't ended by a line feed that stands in no quotes, so it may be a part of one.
     NotEnded,
     /// The record hasn't the 3 to 10 fields of a predicate with 1 to 8 arguments and a score.
     FieldCount { number: u64, found: u64 },
@@ -14,7 +14,7 @@ pub enum KnownFault {
     NotUtf8 { number: u64, field: u64 },
     /// The last field is no number from -4,000,000,000,000,000,000 to 4,000,000,000,000,000,000.
     NotScore { number: u64 },
-    /// An earlier record has the same predicate and arguments.
+    /// An earlier record has the same predicate and arguments, and another score.
     Twice { number: u64 },
     Memory,
 }

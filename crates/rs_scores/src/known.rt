@@ -64,6 +64,10 @@ impl KnownScores {
     }
 
     /// The score of a question, where it is known.
+    ///
+    /// # Errors
+    ///
+    /// - `None`: exactly where the score of the question isn't known.
     pub fn score(&self, question: &Question) -> Option<i64>
         ensures { result ≡ score_of question.now self.now }
     {
@@ -71,6 +75,10 @@ impl KnownScores {
     }
 
     /// Adds the score of a question, where none is known. Says whether none was: the first of two answers stays.
+    ///
+    /// # Errors
+    ///
+    /// - `Memory`: at any call; nothing changes.
     pub fn add(&mut self, question: Question, score: i64) -> Result<bool, Memory>
         ensures new { IfOk result (λ new. new ≡ not (is_some (score_of question self.old))) }
         ensures names { self.new.names ≡ self.old.names }

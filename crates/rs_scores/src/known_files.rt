@@ -3,7 +3,7 @@ ghost use Rattle.std.specs.Str.{bytes_eq};
 ghost use Rattle.rs_value.specs.Outside.{Counts};
 ghost use Rattle.rs_outside.specs.Files.{Fetches};
 ghost use Rattle.rs_outside.specs.declared.files.FetchFault.{FetchFault as Fault};
-ghost use Rattle.rs_scores.specs.KnownFiles.{Looks, found_under, found_with, known_state};
+ghost use Rattle.rs_scores.specs.KnownFiles.{Found, Looks, found_under, found_with, known_state};
 
 use rs_outside::{FetchFault, Files};
 use rs_value::{List as Items, Text};
@@ -121,10 +121,14 @@ impl<F: Files> Files for KnownFiles<F> {
         ensures fetches { (there : Option (List ℕ)) × Fetches there limit into.old.items result into.new.items }
         ensures counts { Counts (result ≡ Err FetchFault.Failed) (known_state (F.state self.old.files)) (known_state (F.state self.new.files)) }
 
-        // A name under which something was found is looked for no more.
+        // What was found stays, and a name under which something was found is looked for no more.
+        ensures stays { (more : List Found) × (self.new.found ≡ self.old.found ++ more) }
         ensures known { IsSome (found_under name.now self.old.found) → self.new ≡ self.old }
+
+        // Where looking was refused, that fault is the answer.
         ensures looks { found_under name.now self.old.found ≡ None → (looked : Result (Unit {0}) Fault)
-            × Looks name.now limit looked (F.state self.old.files) (F.state self.new.files) self.old.found self.new.found }
+            × Looks name.now limit looked (F.state self.old.files) (F.state self.new.files) self.old.found self.new.found
+            × IfErr looked (λ fault. result ≡ Err fault) }
 
         // Where something is found, that is given.
         ensures gives { IfSome (found_under name.now self.new.found) (λ file. Fetches file.there limit into.old.items result into.new.items) }

@@ -67,7 +67,7 @@ fn is_blank(byte: u8) -> bool
 }
 
 /// Whether a byte order mark stands in front.
-fn is_marked(name: &[u8]) -> bool
+pub(crate) fn is_marked(name: &[u8]) -> bool
     ensures { result ≡ is_marked name.now }
 {
     match name {

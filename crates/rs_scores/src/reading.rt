@@ -11,6 +11,7 @@ ghost use Rattle.rs_scores.specs.Reading.{Knows, Reads, ReadsTable, is_ended, kn
 use crate::fault::KnownFault;
 use crate::known::KnownScores;
 use crate::known_score::KnownScore;
+use crate::names::is_marked;
 use crate::place::Place;
 use crate::question::Question;
 use csv::{ByteRecord, Reader, ReaderBuilder};
@@ -75,10 +76,7 @@ fn is_ended(bytes: &[u8]) -> bool
 fn unmarked(bytes: &[u8]) -> &[u8]
     ensures { result.now ≡ strip_bom bytes.now }
 {
-    match bytes {
-        [0xEF, 0xBB, 0xBF, rest @ ..] => rest,
-        _ => bytes,
-    }
+    if is_marked(bytes) { &bytes[3..] } else { bytes }
 }
 
 /// Reads the scores of the records of a file into a table that has none.

@@ -19,7 +19,7 @@ pub(crate) fn names(alloc: Global) -> Result<Vec<Text>, Fail> {
 /// A file, and how many scores it has, or the first thing that refuses it.
 type Row = (&'static [u8], Result<usize, KnownFault>);
 
-const FILES: [Row; 22] = [
+const FILES: [Row; 30] = [
     (b"", Ok(0)),
     (b"near,5,77\n", Ok(1)),
     (b"near,5,77\r\n\r\nliked,5,-3\n", Ok(2)),
@@ -51,13 +51,12 @@ const FILES: [Row; 22] = [
             found: 11,
         }),
     ),
-    (
-        b"near,\"5,77\n",
-        Err(KnownFault::FieldCount {
-            number: 1,
-            found: 2,
-        }),
-    ),
+    (b"near,\"5,77\n", Err(KnownFault::NotEnded)),
+    (b"near,\"5\n,77\n", Err(KnownFault::NotEnded)),
+    (b"near,\"5\n\",77\n", Ok(1)),
+    (b"near,5\",77\n", Ok(1)),
+    (b"\xEF\xBB\xBF\"near\",\"5,77\n", Err(KnownFault::NotEnded)),
+    (b"\xEF\xBB\xBF", Ok(0)),
     (b"far,5,77\n", Err(KnownFault::NotAsked { number: 1 })),
     (b"Near,5,77\n", Err(KnownFault::NotAsked { number: 1 })),
     (
@@ -73,8 +72,14 @@ const FILES: [Row; 22] = [
         b"near,5,4000000000000000001\n",
         Err(KnownFault::NotScore { number: 1 }),
     ),
+    (b"near,5,1\nliked,5,1\nnear,5,1\n", Ok(2)),
+    (b"near,5,1\n\"near\",5,+1\n", Ok(1)),
     (
-        b"near,5,1\nliked,5,1\nnear,5,1\n",
+        b"near,5,1\nnear,5,1\nfar,1,1\n",
+        Err(KnownFault::NotAsked { number: 3 }),
+    ),
+    (
+        b"near,5,1\nnear,5,1\nnear,5,2\n",
         Err(KnownFault::Twice { number: 3 }),
     ),
     (

@@ -92,7 +92,7 @@ fn fetched(
         interrupted: false,
         given,
     };
-    let got = fetch_opened(Ok(reader), limit, &mut into);
+    let (got, _) = fetch_opened(Ok(reader), limit, &mut into);
     Ok((got, into.len()))
 }
 
@@ -142,7 +142,7 @@ fn assert_refused(
 ) -> Result<(), Fail> {
     let mut into = b">".to_vec(alloc)?;
     let opened: io::Result<io::Empty> = Err(io::Error::from(kind));
-    let got = fetch_opened(opened, 9, &mut into);
+    let (got, _) = fetch_opened(opened, 9, &mut into);
     assert!(rt;
         got == Err(fault) && into.as_slice() == b">".as_slice(),
         "at {kind:?}"
