@@ -21,13 +21,8 @@ enum Answer {
 }
 
 /// A scorer over a table of known scores. It answers a call of a predicate that is asked for outside by its known score, and
-<<<<<<< HEAD
-/// fails where none is known; for each other call it answers the value of the predicate's formula. It keeps the calls, and
-/// the question of the last one where that one failed, and the greatest score of its predicate.
-=======
 /// fails where none is known; for each other call it answers the value of the predicate's formula. It keeps the calls, the
 /// question of the last one where that one failed, and the greatest score of its predicate.
->>>>>>> b46e65c11daf639b0e38020d7a8a7b3dbb01e62a
 #[derive(Drop)]
 pub struct TableScorer<'a> {
     known: &'a KnownScores,
