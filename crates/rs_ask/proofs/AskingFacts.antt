@@ -15,7 +15,6 @@ use Rattle.rs_ask.specs.Asking.{Answered, AnswersAll, AskStops, AskingState, Cha
 use Rattle.rs_ask.specs.Answers.{ReadsAnswer, ReadsNext, is_score, score_in}
 use Rattle.rs_ask.specs.Putting.{PutFails, PutsAll, PutsBytes, all_put}
 use Rattle.rs_ask.specs.Running.{RunStops, RunsWhole}
-use Rattle.rs_ask.specs.declared.asked.Asked.{Asked}
 use Rattle.rs_ask.specs.declared.no_answer.NoAnswer.{NoAnswer}
 use Rattle.rs_ask.specs.declared.no_answer.NoAnswer.TheVariants.{Ended, NotNumber, OutOfRange, TooLong, Unasked, Unread}
 use Rattle.rs_ask.specs.declared.pass.Pass.{Pass}

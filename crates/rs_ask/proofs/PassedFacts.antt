@@ -1,10 +1,10 @@
 -- What of runs' puts was passed on, put by put.
-use Rattle.std.proofs.Common.{◌≡◌, ◌≤◌, ◌∙◌, ◌+◌, ◌⊎◌, ℕ, Bool, true, false, inl, inr, List, [], None, Option, Some, Ok, Err, Result, ◌∷◌, ◌++◌, ap, append-nil, append_assoc, arith, drop, length, length-append, refl, subst, sym}
+use Rattle.std.proofs.Common.{◌≡◌, ◌∙◌, ◌⊎◌, ℕ, Bool, true, false, inl, inr, List, [], None, Option, Some, Ok, Err, Result, ◌∷◌, ◌++◌, ap, append-nil, append_assoc, arith, drop, length, refl, subst, sym}
 use Rattle.std.specs.List.{concat}
 use Rattle.std.proofs.lemmas.List.Folds.{concat-append}
 use Rattle.std.proofs.Math.Seq.{drop-append_seam}
 use Rattle.rs_value.specs.Faults.{raised}
-use Rattle.rs_value.specs.Outside.{Counts, Faulted, Keeps, Outside}
+use Rattle.rs_value.specs.Outside.{Faulted, Keeps}
 use Rattle.rs_value.proofs.OutsideFacts.{Faulted-from, Keeps-refl, Keeps-then}
 use Rattle.rs_outside.specs.Sink.{IsPrefix, Puts}
 use Rattle.rs_outside.specs.declared.sink.SinkFault.{SinkFault}

@@ -1,5 +1,5 @@
 -- What runs put, as it is held: bytes, and the lengths of the pieces that they begin with.
-use Rattle.std.proofs.Common.{◌≡◌, ◌≤◌, ◌∙◌, ◌+◌, ◌⊎◌, ℕ, inl, inr, List, [], None, Option, Some, ◌∷◌, ◌++◌, ap, append-nil, append_assoc, arith, drop, drop-drop, length, length-append, length-drop, refl, sym, take, Bor}
+use Rattle.std.proofs.Common.{◌≡◌, ◌≤◌, ◌∙◌, ◌+◌, ◌⊎◌, ℕ, inr, List, [], None, Option, Some, ◌∷◌, ◌++◌, ap, append_assoc, arith, drop, drop-drop, length, length-append, length-drop, refl, sym, take, Bor}
 use Rattle.std.specs.List.{concat}
 use Rattle.std.specs.Prelude.{MatchOption}
 use Rattle.std.proofs.lemmas.List.{drop-append-le, take-append-drop, take-append-le, take_at}

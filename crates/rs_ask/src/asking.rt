@@ -20,16 +20,16 @@ use std::marker::Brand;
 /// puts beyond what was put before goes to `out` at once, and is held. Ends with the first run that misses no score, or whose
 /// question has no answer: then its put failed, or a read of the answers, or the next line of the answers isn't there, is too long,
 /// has no number, or has one that is no score of the predicate. An answer is kept before it is used, and one that is no score isn't
-/// kept.
+/// kept. The sink of the rows is given back.
 ///
 /// # Errors
 ///
-/// - `Differs`: exactly where a run puts something else than was put before in its place, or less, though it had memory.
-/// - `Write`: exactly where a put to `out` failed.
+/// - `Differs`: exactly where a run puts something else than was put before in its place, or less, though it had memory. Nothing of
+///   what differs is put.
+/// - `Write`: exactly where a put to `out` failed. The run is stopped at this put.
 /// - `Lost`: exactly where the put of a score that was read failed. It tells the score's line.
-/// - `Memory`: at any call. All that was put begins what the last run puts, or that run lacked memory and nothing was put of it.
-///
-/// The sink of the rows is given back.
+/// - `Memory`: at any call. All that was put begins what the last run puts; or that run lacked memory, and what was put is what the
+///   runs before it put.
 pub fn ask_and_run<R: Rerun, Q: Sink, A: Answers, K: Sink, O: Sink>(
     alloc: Global,
     runs: &mut R,

@@ -1,4 +1,4 @@
-use Rattle.std.proofs.Common.{◌≡◌, ◌≤◌, ◌∙◌, arith, ap, length, length-take, sym, take}
+use Rattle.std.proofs.Common.{◌≡◌, ◌≤◌, ◌∙◌, arith, ap, length, length-take, take}
 use Rattle.rs_ask.specs.Answers.{line_answer}
 use Rattle.rs_ask.proofs.AnswerFacts.{ReadsAnswer-end, ReadsAnswer-ended, ReadsAnswer-long, ReadsNext-line, byte_read, end_read}
 use Rattle.rs_ask.proofs.answer.read_answer.Goals as goal

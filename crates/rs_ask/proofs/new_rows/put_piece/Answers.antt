@@ -9,7 +9,7 @@ use Rattle.rs_outside.specs.declared.sink.SinkFault.{SinkFault}
 use Rattle.rs_outside.specs.declared.sink.SinkFault.TheVariants as sink
 use Rattle.rs_ask.specs.PutRows.{PutRowsState}
 use Rattle.rs_ask.specs.declared.row_fault.RowFault.TheVariants.{Differs, Failed, Memory}
-use Rattle.rs_ask.proofs.PassedFacts.{Passed-differing, Passed-failed, Passed-memory, Passed-put, Passed-refusal, Passed-within, Puts-refused, goes-on, shown-refused, told-added}
+use Rattle.rs_ask.proofs.PassedFacts.{Passed-differing, Passed-failed, Passed-memory, Passed-put, Passed-refusal, Passed-within, Puts-refused, shown-refused, told-added}
 use Rattle.rs_ask.proofs.PutFacts.{PutsBytes-kept, PutsBytes-one, PutsBytes-part}
 use Rattle.rs_ask.proofs.new_rows.put_piece.Goals as goal
 

@@ -1,4 +1,4 @@
-use Rattle.std.proofs.Common.{◌≡◌, ◌≤◌, ◌∙◌, ◌++◌, ◌∷◌, [], List, ℕ, ap, arith, length, length-append, rules, subst, sym}
+use Rattle.std.proofs.Common.{◌≡◌, ◌≤◌, ◌∙◌, ◌++◌, ◌∷◌, [], ap, arith, length, length-append, rules, subst, sym}
 use Rattle.std.specs.List.{concat}
 use Rattle.rs_outside.specs.Sink.{IsPrefix}
 use Rattle.rs_ask.specs.PutRows.{PutRowsState, pieces_of, total}
