@@ -5,7 +5,7 @@ ghost use Rattle.rs_run.specs.Status.{exit_status_of};
 ghost use Rattle.rs_ask.specs.Asking.{AskingState, channel_state};
 ghost use Rattle.rs_prepare.specs.Preparing.{end_words, openings};
 ghost use Rattle.rs_scores.specs.KnownFiles.{known_state};
-ghost use Rattle.ranksql_ask.specs.AskFaults.{ask_line, ask_status, refusal};
+ghost use Rattle.ranksql_ask.specs.AskFaults.{NoPredicate, ask_line, ask_status, refusal};
 ghost use Rattle.ranksql_ask.specs.Endings.{Commands, Obeys, Readies, Tells, TellsMemory};
 ghost use Rattle.ranksql_ask.specs.Lines.{end_lines, end_status, stop_lines, stop_status};
 ghost use Rattle.ranksql_ask.specs.Parts.Asking.{request_made};
@@ -90,7 +90,7 @@ fn answer<H: Opens, F: Files, G: Files + Drop, O: Sink, E: Sink>(
             };
             make_ready(alloc, names, ends, &mut script, opens, kept, out, err)
         }
-        Ok(Some(name)) => (refuse(alloc, &AskFault::NoPredicate(name), err), out),
+        Ok(Some(name)) => (refuse_name(alloc, name, err), out),
         Err(Memory) => (refuse(alloc, &AskFault::Memory, err), out),
     }
 }
@@ -181,6 +181,13 @@ fn tell_lost<E: Sink>(line: &[u8], err: &mut E) -> u8
         Ok(()) => tell_one(line, Status::Write.number(), err),
         Err(Memory) => tell_memory(err),
     }
+}
+
+/// Puts the line of a name of which the script makes no predicate.
+fn refuse_name<E: Sink>(alloc: Global, name: &Text, err: &mut E) -> u8
+    ensures { Tells (ask_line (NoPredicate name.now) ∷ []) (exit_status_of (ask_status (NoPredicate name.now))) result (E.state err.old) (E.state err.new) }
+{
+    refuse(alloc, &AskFault::NoPredicate(name), err)
 }
 
 /// Puts the line of a fault before any run.
