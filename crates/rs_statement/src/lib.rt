@@ -28,7 +28,10 @@ pub use evaluating::Evaluating;
 pub use fault::{Fault, SessionFault, index_fault, only_row};
 pub use file::{fetch_file, table_fault};
 pub use insert::insert_rows;
-pub use laws::{guesses_call_nobody, queries_put_the_first_lines_of_their_answers};
+pub use laws::{
+    guesses_call_nobody, queries_put_all_lines_of_their_answers,
+    queries_put_the_first_lines_of_their_answers,
+};
 pub use put::put_rows;
 pub use query::query_fault;
 pub use sampling::Sampling;

@@ -14,8 +14,8 @@ mod joining;
 mod laws;
 mod lines;
 
-pub use certifying::cert_word;
+pub use certifying::{cert_word, put_cert};
 pub use checking::check_word;
 pub use fault::WordFault;
-pub use feeding::feed_word;
+pub use feeding::{feed_word, put_join};
 pub use laws::certificates_are_checked_as_good;
