@@ -7,12 +7,13 @@ use Rattle.std.proofs.lemmas.Option.{slice_get_within}
 use Rattle.std.proofs.lemmas.Slice.Eq.{bytes_eq-Decides}
 use Rattle.std.specs.Cmp.{nat_cmp_is}
 use Rattle.std.specs.Ordering.{is_gt, nat_cmp, ordering_then}
-use Rattle.std.specs.Str.{bytes_eq}
+use Rattle.std.specs.Str.{bytes_eq, chars, is_utf8}
 use Rattle.std.specs.declared.cmp.Ordering.TheVariants.{Less, Equal}
 use Rattle.rs_feed.specs.declared.feed_row.FeedRow.{FeedRow}
 use Rattle.rs_order.specs.Climbing.{Climbs, In, IsNoLater, Precedes}
 use Rattle.rs_order.specs.Last.{last_of}
 use Rattle.rs_order.proofs.ClimbingFacts.{AllByRecursion-In, cmp-not_both}
+use Rattle.rs_order.proofs.EachFacts.{each-push, each-slice_get}
 use Rattle.rs_order.proofs.ItemFacts.{In-map, In-map-back}
 use Rattle.rs_order.proofs.PartFacts.{In-drop, In-parts, In-take}
 use Rattle.rs_cert.specs.declared.cert.Cert.{Cert}
@@ -23,8 +24,10 @@ use Rattle.rs_cert.specs.Claims.{claimed_pair, score_of}
 use Rattle.rs_cert.specs.Good.{FallsOnBothSides, HasEnough, HasFirstPairs, IsAtOrBefore, RightIsReached, answers_of, first_answers, merged, no_pair_can_come}
 use Rattle.rs_cert.specs.Pairs.{answers, numbers_cmp, numbers_of, pair_cmp}
 use Rattle.rs_cert.specs.Rows.{Falls, rises}
+use Rattle.rs_cert.specs.Records.{greatest_number}
 use Rattle.rs_cert.specs.Sound.{Continues, Counterexample, IsBelowLeft}
 use Rattle.rs_cert.specs.Verdicts.{IsVerdict}
+use Rattle.rs_cert.specs.Written.{AreWritableRows, IsWritableRow}
 use Rattle.rs_cert.proofs.AnswerFacts.{Climbs-answers, In-answers, In-answers-back, behind-sum, pair_cmp-total}
 use Rattle.rs_cert.proofs.FirstFacts.{claimed-answer}
 use Rattle.rs_cert.proofs.PairFacts.{left-first, pair_of, right-first}
@@ -53,6 +56,23 @@ longer side other falls goes_on = record {
   begins = take_at side.rows (next side.rows other ∷ []) (length side.rows) refl;
   ends = λ e. absurd (true≢false (sym e ∙ goes_on));
 }
+
+-- its score and its text can be those of a row, if those of the other rows can
+writable-last : (rows : List FeedRow) → AreWritableRows rows → score_of (last_of rows) ≤ greatest_number
+writable-last [] each = omega arith
+writable-last (row ∷ []) each = each.0.0
+writable-last (row ∷ other ∷ rows) each = writable-last (other ∷ rows) each.1
+
+writable-longer : (rows : List FeedRow) (other : FeedRow) → AreWritableRows rows → is_utf8 other.join ≡ true → AreWritableRows (rows ++ next rows other ∷ [])
+writable-longer rows other each text = each-push IsWritableRow rows (next rows other) each (writable-last rows each, text)
+
+writable-first : (rows : List FeedRow) (row : FeedRow) → AreWritableRows rows → slice_get rows 0 ≡ Some row → is_utf8 row.join ≡ true
+writable-first rows row each at = (each-slice_get IsWritableRow rows 0 row each at).1
+
+-- the empty text is one
+no_text : is_utf8 [] ≡ true
+unfolding is_utf8 chars
+no_text = refl
 
 same_text : (text : List ℕ) → bytes_eq text text ≡ true
 same_text text = (bytes_eq-Decides text text).1 refl
@@ -150,6 +170,7 @@ pairs-deserved cert refused = record {
   left = own cert.left refused.0.left;
   right = own cert.right refused.0.right;
   others = λ same. refused.1 (are_first same);
+  writable = λ left right. (left, right);
 }
   where
     are_first : numbers_of (take cert.k (answers_of cert)) ≡ cert.pairs → HasFirstPairs cert
@@ -193,32 +214,34 @@ module _ (cert : Cert) (falls : FallsOnBothSides cert) (first : HasFirstPairs ce
       at (at-push cert.right.rows (next cert.right.rows row)) (same_text row.join)
 
   -- a further left row is a counterexample where it contradicts, and a further right one likewise
-  further_left : (row : FeedRow) → cert.left.ended ≡ false → (numbers_of (take cert.k (answers (more_lefts row) cert.right.rows)) ≡ cert.pairs → ⊥) → Counterexample cert
-  further_left row goes_on others = record {
+  further_left : (row : FeedRow) → slice_get cert.right.rows 0 ≡ Some row → cert.left.ended ≡ false → (numbers_of (take cert.k (answers (more_lefts row) cert.right.rows)) ≡ cert.pairs → ⊥) → Counterexample cert
+  further_left row at goes_on others = record {
     lefts = more_lefts row;
     rights = cert.right.rows;
     left = longer cert.left row falls.left goes_on;
     right = own cert.right falls.right;
     others = others;
+    writable = λ left right. (writable-longer cert.left.rows row left (writable-first cert.right.rows row right at), right);
   }
 
-  further_right : (row : FeedRow) → cert.right.ended ≡ false → (numbers_of (take cert.k (answers cert.left.rows (more_rights row))) ≡ cert.pairs → ⊥) → Counterexample cert
-  further_right row goes_on others = record {
+  further_right : (row : FeedRow) → slice_get cert.left.rows 0 ≡ Some row → cert.right.ended ≡ false → (numbers_of (take cert.k (answers cert.left.rows (more_rights row))) ≡ cert.pairs → ⊥) → Counterexample cert
+  further_right row at goes_on others = record {
     lefts = cert.left.rows;
     rights = more_rights row;
     left = own cert.left falls.left;
     right = longer cert.right row falls.right goes_on;
     others = others;
+    writable = λ left right. (left, writable-longer cert.right.rows row right (writable-first cert.left.rows row left at));
   }
 
   -- fewer pairs than are wanted, and a pair that can come
   module _ (few : length cert.pairs < cert.k) where
     one_left : (row : FeedRow) → slice_get cert.right.rows 0 ≡ Some row → cert.left.ended ≡ false → Counterexample cert
-    one_left row at goes_on = further_left row goes_on
+    one_left row at goes_on = further_left row at goes_on
         (λ same. are_enough cert first (more_lefts row) cert.right.rows same (new_left row) (in_left row at) (inl (omega arith)) few)
 
     one_right : (row : FeedRow) → slice_get cert.left.rows 0 ≡ Some row → cert.right.ended ≡ false → Counterexample cert
-    one_right row at goes_on = further_right row goes_on
+    one_right row at goes_on = further_right row at goes_on
         (λ same. are_enough cert first cert.left.rows (more_rights row) same (new_right row) (in_right row at) (inr (omega arith)) few)
 
     -- both sides have no row
@@ -235,6 +258,7 @@ module _ (cert : Cert) (falls : FallsOnBothSides cert) (first : HasFirstPairs ce
       left = longer cert.left any_row falls.left left_on;
       right = longer cert.right any_row falls.right right_on;
       others = λ same. are_enough cert first (more_lefts any_row) (more_rights any_row) same both there (inl (omega arith)) few;
+      writable = λ left right. (writable-longer cert.left.rows any_row left no_text, writable-longer cert.right.rows any_row right no_text);
     }
       where
         there : In both (answers (more_lefts any_row) (more_rights any_row))
@@ -267,6 +291,7 @@ module _ (cert : Cert) (falls : FallsOnBothSides cert) (first : HasFirstPairs ce
           let mapped : length (numbers_of (take cert.k (answers_of cert))) ≡ length (take cert.k (answers_of cert)) = length-map (take cert.k (answers_of cert)) (λ (p : Pair). (p.left, p.right)) in
           let taken : length (take cert.k (answers_of cert)) ≡ min cert.k (length (answers_of cert)) = length-take cert.k (answers_of cert) in
           others (omega arith);
+      writable = λ left right. (left, right);
     }
 
   few-deserved : (HasEnough cert → ⊥) → Counterexample cert
@@ -290,7 +315,7 @@ module _ (cert : Cert) (falls : FallsOnBothSides cert) (first : HasFirstPairs ce
 
     -- a greater sum of a left row that comes
     greater_left : (left right : FeedRow) → last_of cert.left.rows ≡ Some left → slice_get cert.right.rows 0 ≡ Some right → cert.left.ended ≡ false → last.sum < left.score + right.score → Counterexample cert
-    greater_left left right left_at right_at goes_on below = further_left right goes_on (λ same.
+    greater_left left right left_at right_at goes_on below = further_left right right_at goes_on (λ same.
         let sum : score_of (last_of cert.left.rows) ≡ left.score = ap score_of left_at in
         is_no_earlier cert first (more_lefts right) cert.right.rows same (new_left right) (in_left right right_at) (inl (omega arith))
         (longer cert.left right falls.left goes_on) (own cert.right falls.right) last last_in
@@ -298,7 +323,7 @@ module _ (cert : Cert) (falls : FallsOnBothSides cert) (first : HasFirstPairs ce
 
     -- an earlier pair of a right row that comes
     earlier_right : (left right : FeedRow) → slice_get cert.left.rows 0 ≡ Some left → last_of cert.right.rows ≡ Some right → cert.right.ended ≡ false → (IsNoLater pair_cmp (λ p. p) last (merged 1 left (length cert.right.rows) right) → ⊥) → Counterexample cert
-    earlier_right left right left_at right_at goes_on later = further_right left goes_on (λ same.
+    earlier_right left right left_at right_at goes_on later = further_right left left_at goes_on (λ same.
         is_no_earlier cert first cert.left.rows (more_rights left) same (new_right left) (in_right left left_at) (inr (omega arith))
         (own cert.left falls.left) (longer cert.right left falls.right goes_on) last last_in before)
       where

@@ -7,6 +7,7 @@ use Rattle.rs_order.specs.Last.{last_of}
 use Rattle.rs_cert.specs.Good.{first_answers}
 use Rattle.rs_cert.specs.Pairs.{answers, numbers_of}
 use Rattle.rs_cert.specs.Rows.{Falls}
+use Rattle.rs_cert.specs.Written.{AreWritableRows}
 
 -- the rows of a feed whose scores fall begin with those of a side, and are all of them where the side ended
 pub record Continues (side : CertSide) (rows : List FeedRow) : Type 0 where
@@ -18,13 +19,15 @@ pub record Continues (side : CertSide) (rows : List FeedRow) : Type 0 where
 abbrev pub Determines : Cert → Type 0
 Determines cert = (lefts rights : List FeedRow) → Continues cert.left lefts → Continues cert.right rights → numbers_of (take cert.k (answers lefts rights)) ≡ cert.pairs
 
--- two feeds that continue both sides of a certificate, and whose first pairs, as many as are wanted, are others than its pairs
+-- two feeds that continue both sides of a certificate, and whose first pairs, as many as are wanted, are others than its pairs; and
+-- their rows can be those of feeds, if the certificate's can
 pub record Counterexample (cert : Cert) : Type 0 where
   pub lefts : List FeedRow
   pub rights : List FeedRow
   pub left : Continues cert.left lefts
   pub right : Continues cert.right rights
   pub others : numbers_of (take cert.k (answers lefts rights)) ≢ cert.pairs
+  pub writable : AreWritableRows cert.left.rows → AreWritableRows cert.right.rows → AreWritableRows lefts × AreWritableRows rights
 
 -- the sum of the last pair is below that of the last left row and the first right one
 abbrev pub IsBelowLeft : Cert → Type 0

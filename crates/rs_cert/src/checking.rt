@@ -16,8 +16,8 @@ use rs_value::Memory;
 use std::alloc::Global;
 
 /// Whether a certificate proves its answer, or the first part of it that fails: a row of a side whose score rises,
-/// pairs that aren't the first ones or are too many, too few pairs, a left row that could still make an earlier pair,
-/// or a right one.
+/// pairs that aren't the first ones or are too many, too few pairs, or a side, the left one first, of which the rows don't
+/// show that no further row makes an earlier pair.
 ///
 /// Its time grows with the rows and the pairs of the certificate, and not with the pairs that its rows have: of a left
 /// row it looks at no more of them than come before the last pair, and one.

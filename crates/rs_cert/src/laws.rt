@@ -22,11 +22,11 @@ pub fn good_certificates_are_sound()
 {}
 
 /// A refusal of a certificate whose scores fall is deserved: there are two feeds that continue its sides, and whose first pairs are
-/// others than its own. So the rows that were drawn for it don't determine the answer, and no join could give it without a further draw.
+/// others than its own. So its rows don't prove its pairs. Where its pairs are the first ones of its rows, as many as are wanted or all,
+/// feeds without further rows have them, and these don't: the answer can't be known without a further draw.
 ///
-/// These feeds have the rows of the certificate, and no more where these rows have other pairs than its own. Else one side that hasn't
-/// ended has one row more, with the score of its last row and the text of the first row of the other side. Where no side has a row, both
-/// have one.
+/// These feeds have the rows of the certificate, and no more where its rows have other first pairs. Else one side that hasn't ended has
+/// one row more, with the score of its last row and the text of the first row of the other side. Where no side has a row, both have one.
 ///
 /// There is one exception: `Left` is also told where the sum of the last pair is that of the last left row and the first right one. Such
 /// a certificate has such feeds exactly where its right side isn't reached either.

@@ -2,8 +2,9 @@
 //! The check uses no code of the join. It shares with it how rows of feeds and texts are stored.
 //!
 //! Its promise: a check says that a certificate is good exactly where it is, and else tells the first part that fails. Where no score of
-//! two feeds rises, and they begin with the rows of a good certificate and end where it says so, their first pairs are its pairs. What is
-//! written of a certificate is read back as it, and bytes that are none are refused at the first record with which no certificate begins.
+//! two feeds rises, and they begin with the rows of a good certificate and end where it says so, their first pairs are its pairs. Where a
+//! certificate whose scores fall is refused, two such feeds have others, with one exception at equal sums. What is written of a
+//! certificate is read back as it, and bytes that are none are refused at the first record with which no certificate begins.
 #![tactic(auto)]
 
 mod by_text;

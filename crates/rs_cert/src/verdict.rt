@@ -9,8 +9,9 @@ pub enum Verdict {
     Pairs,
     /// There are fewer pairs than are wanted, though the rows have more, or further ones could come.
     Short,
-    /// A left row that wasn't drawn could make a pair that comes before the last one.
+    /// The last pair comes behind that of the last left row and the first right one. So a left row that wasn't drawn could make a pair
+    /// that comes before the last one, unless the sums of the two are equal.
     Left,
-    /// A right row that wasn't drawn could make such a pair.
+    /// A right row that wasn't drawn could make a pair that comes before the last one.
     Right,
 }
