@@ -16,7 +16,3 @@ found_under-added name there (file ∷ rest) none =
       | true ↦ λ e. absurd (cc)
       | false ↦ λ e. found_under-added name there rest e
     ]) none
-
--- what is none is not some
-pub none-some : {A : Type 0} (x : A) → None ≡ Some x → ⊥
-none-some x e = cc

@@ -1,4 +1,4 @@
-ghost use Rattle.std.specs.Prelude.{◌≡◌, ◌≢◌, [], Err, IfErr, IfSome, IsSome, List, MatchOption, None, OnOk, Option, Result, ◌++◌, ℕ, find, option_map};
+ghost use Rattle.std.specs.Prelude.{◌≡◌, ◌≢◌, [], Err, IfErr, IfSome, IsSome, List, MatchOption, None, OnOk, Option, Result, Some, ◌++◌, ℕ, find, option_map};
 ghost use Rattle.std.specs.Str.{bytes_eq};
 ghost use Rattle.rs_value.specs.Outside.{Counts};
 ghost use Rattle.rs_outside.specs.Files.{Fetches};
@@ -63,6 +63,23 @@ fn give(there: &Option<Items<u8>>, limit: usize, into: &mut Vec<u8>) -> Result<(
     match into.extend_from_slice(bytes.items()) {
         Ok(()) => Ok(()),
         Err(_) => Err(FetchFault::Memory),
+    }
+}
+
+/// What a fetch gives of what was found under this name.
+fn give_found(
+    found: &[FoundFile],
+    name: &Text,
+    limit: usize,
+    into: &mut Vec<u8>,
+) -> Result<(), FetchFault>
+    requires { IsSome (found_under name.now found.now) }
+    ensures fetches { (file : Found) × (found_under name.now found.now ≡ Some file) × Fetches file.there limit into.old.items result into.new.items }
+    ensures goes { result ≢ Err FetchFault.Failed }
+{
+    match found_under(found, name) {
+        Some(file) => give(&file.there, limit, into),
+        None => unreachable!(),
     }
 }
 
@@ -136,10 +153,9 @@ impl<F: Files> Files for KnownFiles<F> {
         if let Some(file) = found_under(&self.found, name) {
             return give(&file.there, limit, into);
         }
-        self.look(*into.allocator(), name, limit)?;
-        match found_under(&self.found, name) {
-            Some(file) => give(&file.there, limit, into),
-            None => unreachable!(),
+        match self.look(*into.allocator(), name, limit) {
+            Ok(()) => give_found(&self.found, name, limit, into),
+            Err(refused) => Err(refused),
         }
     }
 
