@@ -2,7 +2,8 @@
 
 use crate::failing::FailingBytes;
 use crate::planned::{Planned, PlannedRuns};
-use rs_ask::{Asked, Channel, ReadAnswers, Stop, ask_and_run};
+use crate::told::{Told, is_told};
+use rs_ask::{Asked, Channel, NoAnswer, ReadAnswers, Stop, ask_and_run};
 use rs_outside::MemSink;
 use rs_scores::KnownScores;
 use rs_value::Text;
@@ -11,34 +12,45 @@ use std::io::ErrorKind;
 use std::process::Abort;
 use std::test::Fail;
 
-/// What fails: the put of a question or of a score of this number, behind so many bytes, or the read of this number. A byte of the
-/// answers takes one read.
+/// What fails: the put of a row, of a question or of a score of this number, behind so many bytes, or the read of this number. A byte
+/// of the answers takes one read.
 enum Fails {
+    Row(u32, usize),
     Question(u32, usize),
     Score(u32, usize),
     Read(u64),
 }
 
-/// Runs, the bytes of the answers, and what fails; then how many answers were read and whether one was left out, or what stopped
-/// it; all that was put, asked and kept; and what is left of the answers.
+/// How it ends: with a run, behind so many answers; with a question that has no answer; or stopped.
+enum Ending {
+    Run(usize),
+    Unanswered(usize, Told),
+    Differs,
+    Write,
+    Lost(&'static [u8]),
+    Memory,
+}
+
+/// Runs, the bytes of the answers, and what fails; then how it ends; all that was put, asked and kept; and what is left of the
+/// answers.
 struct Case {
     runs: &'static [Planned],
     answers: &'static [u8],
     fails: Option<Fails>,
-    ended: Result<(usize, bool), Stop>,
+    ended: Ending,
     out: &'static [u8],
     questions: &'static [u8],
     scores: &'static [u8],
     left: &'static [u8],
 }
 
-const CASES: [Case; 17] = [
+const CASES: [Case; 25] = [
     // Nothing is missing.
     Case {
-        runs: &[(b"a\n", -1, false)],
+        runs: &[(&[b"a\n"], -1, false)],
         answers: b"9\n",
         fails: None,
-        ended: Ok((0, false)),
+        ended: Ending::Run(0),
         out: b"a\n",
         questions: b"",
         scores: b"",
@@ -46,21 +58,25 @@ const CASES: [Case; 17] = [
     },
     // Two scores are missing, and each run goes on where the one before it ended.
     Case {
-        runs: &[(b"", 5, false), (b"a\n", 6, false), (b"a\nb\n", -1, false)],
-        answers: b"70\n-1\r\n",
+        runs: &[
+            (&[], 5, false),
+            (&[b"a\n"], 6, false),
+            (&[b"a\n", b"b\n"], -1, false),
+        ],
+        answers: b"70\n100 \r\n",
         fails: None,
-        ended: Ok((2, false)),
+        ended: Ending::Run(2),
         out: b"a\nb\n",
         questions: b"near,5\nnear,6\n",
-        scores: b"near,5,70\nnear,6,-1\n",
+        scores: b"near,5,70\nnear,6,100\n",
         left: b"",
     },
     // The answers end.
     Case {
-        runs: &[(b"", 5, false), (b"a\n", 6, false)],
+        runs: &[(&[], 5, false), (&[b"a\n"], 6, false)],
         answers: b"70\n",
         fails: None,
-        ended: Ok((1, true)),
+        ended: Ending::Unanswered(1, Told::Ended),
         out: b"a\n",
         questions: b"near,5\nnear,6\n",
         scores: b"near,5,70\n",
@@ -68,10 +84,10 @@ const CASES: [Case; 17] = [
     },
     // An answer is no number.
     Case {
-        runs: &[(b"a\n", 5, false)],
+        runs: &[(&[b"a\n"], 5, false)],
         answers: b"x\n",
         fails: None,
-        ended: Ok((0, true)),
+        ended: Ending::Unanswered(0, Told::NotNumber(b"x")),
         out: b"a\n",
         questions: b"near,5\n",
         scores: b"",
@@ -79,10 +95,10 @@ const CASES: [Case; 17] = [
     },
     // A run puts less than was put already.
     Case {
-        runs: &[(b"a\n", 5, false), (b"", -1, false)],
+        runs: &[(&[b"a\n"], 5, false), (&[], -1, false)],
         answers: b"70\n",
         fails: None,
-        ended: Err(Stop::Differs),
+        ended: Ending::Differs,
         out: b"a\n",
         questions: b"near,5\n",
         scores: b"near,5,70\n",
@@ -90,10 +106,10 @@ const CASES: [Case; 17] = [
     },
     // A run puts something else.
     Case {
-        runs: &[(b"a\n", 5, false), (b"b\nc\n", -1, false)],
+        runs: &[(&[b"a\n"], 5, false), (&[b"b\n", b"c\n"], -1, false)],
         answers: b"70\n",
         fails: None,
-        ended: Err(Stop::Differs),
+        ended: Ending::Differs,
         out: b"a\n",
         questions: b"near,5\n",
         scores: b"near,5,70\n",
@@ -101,10 +117,10 @@ const CASES: [Case; 17] = [
     },
     // A run lacks memory before it has put what was put already.
     Case {
-        runs: &[(b"a\n", 5, false), (b"", -1, true)],
+        runs: &[(&[b"a\n"], 5, false), (&[], -1, true)],
         answers: b"70\n",
         fails: None,
-        ended: Err(Stop::Memory),
+        ended: Ending::Memory,
         out: b"a\n",
         questions: b"near,5\n",
         scores: b"near,5,70\n",
@@ -112,10 +128,10 @@ const CASES: [Case; 17] = [
     },
     // A run lacks memory behind a row that wasn't put yet.
     Case {
-        runs: &[(b"a\n", 5, false), (b"a\nb\n", -1, true)],
+        runs: &[(&[b"a\n"], 5, false), (&[b"a\n", b"b\n"], -1, true)],
         answers: b"70\n",
         fails: None,
-        ended: Ok((1, false)),
+        ended: Ending::Run(1),
         out: b"a\nb\n",
         questions: b"near,5\n",
         scores: b"near,5,70\n",
@@ -123,10 +139,10 @@ const CASES: [Case; 17] = [
     },
     // A run that misses a score that is known by then says so no more, and is the last.
     Case {
-        runs: &[(b"", 5, false), (b"a\n", 5, false)],
+        runs: &[(&[], 5, false), (&[b"a\n"], 5, false)],
         answers: b"70\n80\n",
         fails: None,
-        ended: Ok((1, false)),
+        ended: Ending::Run(1),
         out: b"a\n",
         questions: b"near,5\n",
         scores: b"near,5,70\n",
@@ -134,10 +150,10 @@ const CASES: [Case; 17] = [
     },
     // The last answer isn't ended.
     Case {
-        runs: &[(b"", 5, false), (b"a\n", 6, false)],
+        runs: &[(&[], 5, false), (&[b"a\n"], 6, false)],
         answers: b"70\n80",
         fails: None,
-        ended: Ok((1, true)),
+        ended: Ending::Unanswered(1, Told::Ended),
         out: b"a\n",
         questions: b"near,5\nnear,6\n",
         scores: b"near,5,70\n",
@@ -145,10 +161,10 @@ const CASES: [Case; 17] = [
     },
     // The put of the first question fails at once: no answer is read.
     Case {
-        runs: &[(b"a\n", 5, false)],
+        runs: &[(&[b"a\n"], 5, false)],
         answers: b"70\n",
         fails: Some(Fails::Question(1, 0)),
-        ended: Ok((0, true)),
+        ended: Ending::Unanswered(0, Told::Unasked),
         out: b"a\n",
         questions: b"",
         scores: b"",
@@ -156,10 +172,10 @@ const CASES: [Case; 17] = [
     },
     // That of the second one fails behind three bytes of it.
     Case {
-        runs: &[(b"", 5, false), (b"a\n", 6, false)],
+        runs: &[(&[], 5, false), (&[b"a\n"], 6, false)],
         answers: b"70\n80\n",
         fails: Some(Fails::Question(2, 3)),
-        ended: Ok((1, true)),
+        ended: Ending::Unanswered(1, Told::Unasked),
         out: b"a\n",
         questions: b"near,5\nnea",
         scores: b"near,5,70\n",
@@ -167,40 +183,40 @@ const CASES: [Case; 17] = [
     },
     // The read of each byte of the first answer fails, and then that of the second answer's first byte.
     Case {
-        runs: &[(b"", 5, false), (b"a\n", 6, false)],
+        runs: &[(&[], 5, false), (&[b"a\n"], 6, false)],
         answers: b"70\n80\n",
         fails: Some(Fails::Read(1)),
-        ended: Ok((0, true)),
+        ended: Ending::Unanswered(0, Told::Unread),
         out: b"",
         questions: b"near,5\n",
         scores: b"",
         left: b"70\n80\n",
     },
     Case {
-        runs: &[(b"", 5, false), (b"a\n", 6, false)],
+        runs: &[(&[], 5, false), (&[b"a\n"], 6, false)],
         answers: b"70\n80\n",
         fails: Some(Fails::Read(2)),
-        ended: Ok((0, true)),
+        ended: Ending::Unanswered(0, Told::Unread),
         out: b"",
         questions: b"near,5\n",
         scores: b"",
         left: b"0\n80\n",
     },
     Case {
-        runs: &[(b"", 5, false), (b"a\n", 6, false)],
+        runs: &[(&[], 5, false), (&[b"a\n"], 6, false)],
         answers: b"70\n80\n",
         fails: Some(Fails::Read(3)),
-        ended: Ok((0, true)),
+        ended: Ending::Unanswered(0, Told::Unread),
         out: b"",
         questions: b"near,5\n",
         scores: b"",
         left: b"\n80\n",
     },
     Case {
-        runs: &[(b"", 5, false), (b"a\n", 6, false)],
+        runs: &[(&[], 5, false), (&[b"a\n"], 6, false)],
         answers: b"70\n80\n",
         fails: Some(Fails::Read(4)),
-        ended: Ok((1, true)),
+        ended: Ending::Unanswered(1, Told::Unread),
         out: b"a\n",
         questions: b"near,5\nnear,6\n",
         scores: b"near,5,70\n",
@@ -208,14 +224,106 @@ const CASES: [Case; 17] = [
     },
     // The put of the second score fails behind four bytes of its line: its answer is lost.
     Case {
-        runs: &[(b"", 5, false), (b"a\n", 6, false)],
+        runs: &[(&[], 5, false), (&[b"a\n"], 6, false)],
         answers: b"70\n80\n",
         fails: Some(Fails::Score(2, 4)),
-        ended: Err(Stop::Write),
+        ended: Ending::Lost(b"near,6,80\n"),
         out: b"a\n",
         questions: b"near,5\nnear,6\n",
         scores: b"near,5,70\nnear",
         left: b"",
+    },
+    // A number above the greatest score, and one below 0: neither is kept.
+    Case {
+        runs: &[(&[b"a\n"], 5, false)],
+        answers: b"101\n70\n",
+        fails: None,
+        ended: Ending::Unanswered(0, Told::OutOfRange(101)),
+        out: b"a\n",
+        questions: b"near,5\n",
+        scores: b"",
+        left: b"70\n",
+    },
+    Case {
+        runs: &[(&[], 5, false), (&[b"a\n"], 6, false)],
+        answers: b"0\n-1\n",
+        fails: None,
+        ended: Ending::Unanswered(1, Told::OutOfRange(-1)),
+        out: b"a\n",
+        questions: b"near,5\nnear,6\n",
+        scores: b"near,5,0\n",
+        left: b"",
+    },
+    // A later run puts the same bytes in other pieces, and more.
+    Case {
+        runs: &[
+            (&[b"a\nb\n"], 5, false),
+            (&[b"a", b"\n", b"b\nc\n", b"d\n"], -1, false),
+        ],
+        answers: b"70\n",
+        fails: None,
+        ended: Ending::Run(1),
+        out: b"a\nb\nc\nd\n",
+        questions: b"near,5\n",
+        scores: b"near,5,70\n",
+        left: b"",
+    },
+    // It differs in the middle of a piece, behind one that doesn't: nothing more is put.
+    Case {
+        runs: &[
+            (&[b"a\n", b"b\n"], 5, false),
+            (&[b"a\n", b"bc\n", b"d\n"], -1, false),
+        ],
+        answers: b"70\n",
+        fails: None,
+        ended: Ending::Differs,
+        out: b"a\nb\n",
+        questions: b"near,5\n",
+        scores: b"near,5,70\n",
+        left: b"",
+    },
+    // A run that lacks memory behind a part of what was put: that stays, and isn't put once more.
+    Case {
+        runs: &[(&[b"a\n", b"b\n"], 5, false), (&[b"a\n"], -1, true)],
+        answers: b"70\n",
+        fails: None,
+        ended: Ending::Memory,
+        out: b"a\nb\n",
+        questions: b"near,5\n",
+        scores: b"near,5,70\n",
+        left: b"",
+    },
+    // The put of the first row fails, and that of the second one behind a byte of it: nothing is asked.
+    Case {
+        runs: &[(&[b"a\n", b"b\n"], 5, false)],
+        answers: b"70\n",
+        fails: Some(Fails::Row(1, 0)),
+        ended: Ending::Write,
+        out: b"",
+        questions: b"",
+        scores: b"",
+        left: b"70\n",
+    },
+    Case {
+        runs: &[(&[b"a\n", b"b\n"], 5, false)],
+        answers: b"70\n",
+        fails: Some(Fails::Row(2, 1)),
+        ended: Ending::Write,
+        out: b"a\nb",
+        questions: b"",
+        scores: b"",
+        left: b"70\n",
+    },
+    // That of the first row that is new in a later run.
+    Case {
+        runs: &[(&[b"a\n"], 5, false), (&[b"a\n", b"b\n", b"c\n"], 6, false)],
+        answers: b"70\n80\n",
+        fails: Some(Fails::Row(2, 0)),
+        ended: Ending::Write,
+        out: b"a\n",
+        questions: b"near,5\n",
+        scores: b"near,5,70\n",
+        left: b"80\n",
     },
 ];
 
@@ -226,14 +334,42 @@ fn none_known(alloc: Global) -> Result<KnownScores, Fail> {
     Ok(KnownScores::new(alloc, names))
 }
 
-fn ended(asked: &Result<Asked, Stop>) -> Result<(usize, bool), Stop> {
-    match asked {
-        Ok(asked) => Ok((asked.answers, asked.pass.missing.is_some())),
-        Err(stop) => Err(*stop),
+/// Whether it ended so.
+fn is_ended(asked: &Result<Asked, Stop>, ended: &Ending) -> bool {
+    match (asked, ended) {
+        (Ok(asked), Ending::Run(answers)) => {
+            asked.answers == *answers && asked.pass.missing.is_none() && asked.unanswered.is_none()
+        }
+        (Ok(asked), Ending::Unanswered(answers, told)) => {
+            asked.answers == *answers
+                && asked.pass.missing.is_some()
+                && tells(&asked.unanswered, told)
+        }
+        (Err(Stop::Differs), Ending::Differs) => true,
+        (Err(Stop::Write), Ending::Write) => true,
+        (Err(Stop::Lost(line)), Ending::Lost(bytes)) => line.items().as_slice() == *bytes,
+        (Err(Stop::Memory), Ending::Memory) => true,
+        _ => false,
     }
 }
 
-/// The put of a question that fails, if one does, and behind how many bytes.
+/// Whether there is such a cause.
+fn tells(why: &Option<NoAnswer>, told: &Told) -> bool {
+    match why {
+        Some(why) => is_told(why, told),
+        None => false,
+    }
+}
+
+/// The put of a row that fails, if one does, and behind how many bytes.
+fn failing_row(case: &Case) -> Option<(u32, usize)> {
+    match case.fails {
+        Some(Fails::Row(number, after)) => Some((number, after)),
+        _ => None,
+    }
+}
+
+/// The same of the put of a question.
 fn failing_question(case: &Case) -> Option<(u32, usize)> {
     match case.fails {
         Some(Fails::Question(number, after)) => Some((number, after)),
@@ -280,9 +416,9 @@ fn assert_case(rt: &impl Abort, alloc: Global, case: &Case) -> Result<(), Fail> 
         answers: ReadAnswers::new(&mut bytes),
         scores,
     };
-    let mut out = MemSink::new(alloc);
-    let asked = ask_and_run(alloc, &mut runs, &mut known, &mut channel, &mut out);
-    assert_eq!(rt; ended(&asked), case.ended);
+    let out = sink_failing(alloc, failing_row(case))?;
+    let (asked, out) = ask_and_run(alloc, &mut runs, &mut known, &mut channel, out);
+    assert!(rt; is_ended(&asked, &case.ended));
     assert!(rt; out.bytes() == case.out);
     assert!(rt; channel.questions.bytes() == case.questions);
     assert!(rt; channel.scores.bytes() == case.scores);

@@ -12,3 +12,5 @@ mod asked;
 mod failing;
 #[cfg(test)]
 mod planned;
+#[cfg(test)]
+mod told;

@@ -9,9 +9,12 @@ use rs_scores::{KnownScores, Question};
 use rs_value::{Memory, Text, Value};
 use std::alloc::Global;
 
-/// A run: what it puts, the number for which it misses the score of `near`, and whether it lacks memory behind what it puts. A
-/// number below 0 is missed by none.
-pub(crate) type Planned = (&'static [u8], i64, bool);
+/// The greatest score of `near`.
+const MOST: u32 = 100;
+
+/// A run: the pieces that it puts, the number for which it misses the score of `near`, and whether it lacks memory behind what it
+/// puts. A number below 0 is missed by none.
+pub(crate) type Planned = (&'static [&'static [u8]], i64, bool);
 
 /// Runs that are planned, and how many were made. Behind the last one there is an empty one that misses nothing.
 #[derive(Drop)]
@@ -42,34 +45,38 @@ fn missing(alloc: Global, known: &KnownScores, number: i64) -> Option<Question>
     Some(question)
 }
 
-fn sink_with(alloc: Global, bytes: &[u8]) -> Result<MemSink, SinkFault> {
-    let mut sink = MemSink::new(alloc);
-    sink.put(bytes)?;
-    Ok(sink)
+/// Puts these pieces, up to the first put that doesn't go well.
+fn put_all<O: Sink>(pieces: &[&[u8]], out: &mut O) -> Result<(), SinkFault> {
+    for piece in pieces {
+        out.put(piece)?;
+    }
+    Ok(())
 }
 
 impl Rerun for PlannedRuns {
-    ghost ran = { λ _ _ _ _. Unit {0} };
+    ghost ran = { λ _ _ _ _ _ _. Unit {0} };
 
-    fn rerun(&mut self, alloc: Global, known: &KnownScores) -> Pass
+    fn rerun<O: Sink>(&mut self, alloc: Global, known: &KnownScores, out: &mut O) -> Pass
         ensures missing { IfSome result.missing (λ question. score_of question known.now ≡ None) }
     {
-        let (bytes, number, lacked_memory): Planned = match self.runs.get(self.made) {
+        let (pieces, number, lacks): Planned = match self.runs.get(self.made) {
             Some(planned) => *planned,
-            None => (b"", -1, false),
+            None => (&[], -1, false),
         };
         self.made = self.made.saturating_add(1);
-        let out = match sink_with(alloc, bytes) {
-            Ok(sink) => sink,
-            Err(_) => MemSink::new(alloc),
+        // As a run does: it ends where a put doesn't go well, and then it misses no score.
+        let (number, lacked_memory) = match put_all(pieces, out) {
+            Ok(()) => (number, lacks),
+            Err(SinkFault::Failed) => (-1, false),
+            Err(SinkFault::Memory) => (-1, true),
         };
         Pass {
-            out,
             err: MemSink::new(alloc),
             status: 8,
             lacked_memory,
             calls: self.made as u64,
             missing: missing(alloc, known, number),
+            most: MOST,
         }
     }
 }
