@@ -1,5 +1,5 @@
 -- What runs put, as it is held: bytes, and the lengths of the pieces that they begin with.
-use Rattle.std.proofs.Common.{◌≡◌, ◌≤◌, ◌∙◌, ◌+◌, ◌⊎◌, ℕ, inl, inr, List, [], None, Option, Some, ◌∷◌, ◌++◌, ap, append-nil, append_assoc, arith, drop, drop-drop, length, length-append, length-drop, refl, sym, take, Bor}
+use Rattle.std.proofs.Common.{◌≡◌, ◌≤◌, ◌∙◌, ◌+◌, ◌⊎◌, ℕ, inr, List, [], None, Option, Some, ◌∷◌, ◌++◌, ap, append_assoc, arith, drop, drop-drop, length, length-append, length-drop, refl, sym, take, Bor}
 use Rattle.std.specs.List.{concat}
 use Rattle.std.specs.Prelude.{MatchOption}
 use Rattle.std.proofs.lemmas.List.{drop-append-le, take-append-drop, take-append-le, take_at}
@@ -66,7 +66,7 @@ within-add lengths bytes piece new within goes =
 pub held-add : (before : ℕ) (bytes all : List ℕ) (lengths more : List ℕ) (refused : List (List ℕ)) (fault : Option RowFault) (faults : ℕ) (piece new : List ℕ)
     → all ≡ bytes ++ new → more ≡ lengths ++ length piece ∷ [] → before ≤ length bytes → total lengths ≤ length bytes → IsPrefix (concat (pieces_of lengths bytes) ++ piece) (bytes ++ new)
     → ◌≡◌ {A = PutRowsState} (record { shown = take before all; bytes = all; pieces = pieces_of more all; refused = refused; fault = fault; faults = faults })
-      (record { shown = take before bytes; bytes = bytes ++ new; pieces = pieces_of lengths bytes ++ piece ∷ []; refused = refused; fault = fault; faults = faults })
+    (record { shown = take before bytes; bytes = bytes ++ new; pieces = pieces_of lengths bytes ++ piece ∷ []; refused = refused; fault = fault; faults = faults })
 held-add before bytes all lengths more refused fault faults piece new is are known within goes =
     let seen : List ℕ → List ℕ → List (List ℕ) → PutRowsState = λ shown bytes pieces. record { shown = shown; bytes = bytes; pieces = pieces; refused = refused; fault = fault; faults = faults } in
     ap (λ all. seen (take before all) all (pieces_of more all)) is

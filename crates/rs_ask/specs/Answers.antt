@@ -33,12 +33,14 @@ without_blanks (byte ∷ rest) = if list_all is_blank (byte ∷ rest) then [] el
 abbrev pub answer_in : List ℕ → Option ℤ
 answer_in line = int_value (without_blanks (without_return line))
 
+-- a number, or that this line has none
+abbrev pub or_not_number : List ℕ → Option ℤ → Result ℤ NoAnswer
+or_not_number line (Some number) = Ok number
+or_not_number line None = Err (NotNumber line)
+
 -- a line's number, or that it has none
 abbrev pub line_answer : List ℕ → Result ℤ NoAnswer
-line_answer line = or_line (answer_in line) where
-  or_line : Option ℤ → Result ℤ NoAnswer
-  or_line (Some number) = Ok number
-  or_line None = Err (NotNumber line)
+line_answer line = or_not_number line (answer_in line)
 
 -- how many bytes stand before the first line feed, which are all where there is none
 abbrev pub line_length : List ℕ → ℕ

@@ -110,7 +110,12 @@ pub record Passed (began now : Outside (List (List ℕ))) (rows : PutRowsState) 
   pub keeps : Keeps began now
   pub is : PassedBy rows.fault began now rows
 
--- what runs put to: what was put so far, and where what is new goes
+-- what holds of a run's puts, where this was put by the runs before
+pub record IsOfRun (shown : List ℕ) (began now : Outside (List (List ℕ))) (rows : PutRowsState) : Type 0 where
+  pub shown_is : rows.shown ≡ shown
+  pub passed : Passed began now rows
+
+-- what a run puts to: what was put so far, and where what is new goes
 pub record NewRowsState (O : Type 0) : Type 0 where
   pub rows : PutRowsState
   pub out : O

@@ -1,5 +1,5 @@
 -- One run, over what was put before it.
-use Rattle.std.specs.Prelude.{ℕ, ◌≡◌, List, [], ◌∷◌, ◌++◌}
+use Rattle.std.specs.Prelude.{ℕ, ◌≡◌, List, [], ◌++◌}
 use Rattle.std.specs.List.{concat}
 use Rattle.rs_value.specs.Outside.{Outside}
 use Rattle.rs_scores.specs.Known.{Known}

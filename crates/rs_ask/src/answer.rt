@@ -1,6 +1,6 @@
-ghost use Rattle.std.specs.Prelude.{◌≡◌, ◌≤◌, length, take};
+ghost use Rattle.std.specs.Prelude.{◌≡◌, ◌≤◌, take};
 ghost use Rattle.rs_value.specs.Outside.{Keeps};
-ghost use Rattle.rs_ask.specs.Answers.{ReadsNext, answer_in, line_answer, without_blanks};
+ghost use Rattle.rs_ask.specs.Answers.{ReadsNext, answer_in, is_blank, line_answer, without_blanks};
 
 use crate::answer_line::AnswerLine;
 use crate::answers::Answers;
@@ -44,7 +44,7 @@ pub fn read_answer<A: Answers>(answers: &mut A) -> Result<i64, NoAnswer>
 /// The number of the first bytes of these, or their line.
 fn line_answer(line: [u8; MOST_ANSWER], len: usize) -> Result<i64, NoAnswer>
     requires { len ≤ 64 }
-    ensures { result ≡ line_answer (take len line.entry) }
+    ensures { result ≡ line_answer (take len line) }
 {
     match answer_in(&line[..len]) {
         Some(number) => Ok(number),
@@ -66,8 +66,21 @@ fn answer_in(line: &[u8]) -> Option<i64>
 fn without_blanks(line: &[u8]) -> &[u8]
     ensures { result.now ≡ without_blanks line.now }
 {
-    match line {
-        [rest @ .., b' ' | b'\t'] => without_blanks(rest),
-        _ => line,
+    match line.split_last() {
+        Some((last, rest)) => {
+            if is_blank(*last) {
+                without_blanks(rest)
+            } else {
+                line
+            }
+        }
+        None => line,
     }
+}
+
+/// Whether a byte is a space or a tab.
+fn is_blank(byte: u8) -> bool
+    ensures { result ≡ is_blank byte }
+{
+    byte == b' ' || byte == b'\t'
 }

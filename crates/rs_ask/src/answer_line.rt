@@ -1,4 +1,4 @@
-ghost use Rattle.std.specs.Prelude.{◌≡◌, ◌≤◌, length};
+ghost use Rattle.std.specs.Prelude.{◌≡◌, ◌≤◌, take};
 
 use crate::answer::MOST_ANSWER;
 use std::marker::Model;
@@ -24,7 +24,7 @@ impl AnswerLine {
     /// The line of these bytes.
     pub(crate) fn of(bytes: [u8; MOST_ANSWER], len: usize) -> AnswerLine
         requires { len ≤ 64 }
-        ensures { result ≡ take len bytes.entry }
+        ensures { result ≡ take len bytes }
     {
         AnswerLine { bytes, len }
     }

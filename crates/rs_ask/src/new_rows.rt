@@ -2,7 +2,7 @@ ghost use Rattle.std.specs.Prelude.{◌≡◌, ◌++◌, [], Err, IfSome, List, 
 ghost use Rattle.std.specs.List.{concat};
 ghost use Rattle.rs_value.specs.Outside.{Counts, Outside};
 ghost use Rattle.rs_outside.specs.Sink.{Puts};
-ghost use Rattle.rs_ask.specs.PutRows.{IsRefused, Passed, rows_again, rows_state};
+ghost use Rattle.rs_ask.specs.PutRows.{IsOfRun, IsRefused, Passed, rows_state};
 ghost use Rattle.rs_ask.specs.Stops.{StopsAt, differs_as};
 
 use crate::put_rows::{PutRows, new_part};
@@ -10,24 +10,30 @@ use crate::row_fault::RowFault;
 use crate::stop::Stop;
 use rs_outside::{Sink, SinkFault};
 use rs_value::Memory;
-use std::alloc::Global;
 use std::marker::{Brand, Model, PhantomData};
 
-/// What was put where rows go, before the first run. Proofs alone see it.
+/// What stood before a run. Proofs alone see it.
 pub(crate) trait Began {
     ghost use Rattle.std.specs.Prelude.{List, ℕ};
     ghost use Rattle.rs_value.specs.Outside.{Outside};
 
+    /// What was put where rows go, before the first run.
     ghost out: { Outside (List (List ℕ)) };
+
+    /// All that was put by the runs before.
+    ghost shown: { List ℕ };
 }
 
 impl Began for Brand {
+    ghost use Rattle.std.specs.Prelude.{[]};
     ghost use Rattle.rs_value.specs.Outside.{untold};
 
     ghost out = { untold 0 };
+
+    ghost shown = { [] };
 }
 
-/// Where runs put their rows: what was put before is compared, and what is new is passed on at once.
+/// Where a run puts its rows: what was put before is compared, and what is new is passed on at once.
 pub(crate) struct NewRows<O: Sink, B: Began> {
     rows: PutRows,
     out: O,
@@ -35,41 +41,33 @@ pub(crate) struct NewRows<O: Sink, B: Began> {
 }
 
 impl<O: Sink, B: Began> Model for NewRows<O, B> {
-    ghost use Rattle.rs_ask.specs.PutRows.{NewRowsState, Passed};
+    ghost use Rattle.rs_ask.specs.PutRows.{IsOfRun, NewRowsState};
 
     ghost Value = { NewRowsState O };
 
     ghost view = { λ n. record { rows = n.rows; out = n.out } };
 
-    ghost invariant = { λ n. Passed B.out (O.state n.out) n.rows };
+    ghost invariant = { λ n. IsOfRun B.shown B.out (O.state n.out) n.rows };
 }
 
 impl<O: Sink, B: Began> NewRows<O, B> {
-    /// No run was made. It takes no memory.
-    pub(crate) fn new(alloc: Global, out: O) -> NewRows<O, B>
-        requires { B.out ≡ O.state out }
-        ensures { result ≡ record { rows = rows_again []; out = out } }
+    /// Of a run that begins.
+    pub(crate) fn new(rows: PutRows, out: O) -> NewRows<O, B>
+        requires { IsOfRun B.shown B.out (O.state out) rows }
+        ensures { result ≡ record { rows = rows; out = out } }
     {
         NewRows {
-            rows: PutRows::new(alloc),
+            rows,
             out,
             of: PhantomData,
         }
     }
 
-    /// Begins one more run.
-    pub(crate) fn begin(&mut self)
-        requires { self.old.rows.fault ≡ None }
-        ensures { self.new ≡ record self.old { rows = rows_again self.old.rows.bytes } }
-    {
-        self.rows.begin();
-    }
-
     /// What stops the asking behind a run, if anything does: a put of its rows that failed, or that it put less than was put before.
     pub(crate) fn stop(&self, lacked_memory: bool) -> Option<Stop>
-        ensures none { result ≡ None → (self.now.rows.fault ≡ None) × (self.now.rows.bytes ≡ concat self.now.rows.pieces) }
+        ensures none { result ≡ None → (self.now.rows.fault ≡ None) × (self.now.rows.refused ≡ []) × (self.now.rows.bytes ≡ concat self.now.rows.pieces) }
         ensures some { IfSome result (λ stop. StopsAt stop lacked_memory self.now.rows.shown (rows_state self.now.rows) B.out (O.state self.now.out)) }
-        ensures passed { Passed B.out (O.state self.now.out) self.now.rows }
+        ensures of { IsOfRun B.shown B.out (O.state self.now.out) self.now.rows }
     {
         match self.rows.fault() {
             None => {
@@ -84,13 +82,12 @@ impl<O: Sink, B: Began> NewRows<O, B> {
         }
     }
 
-    /// Where rows go. What is held is let go.
-    pub(crate) fn into_out(self) -> O
-        ensures { result ≡ self.out }
+    /// What was put so far, and where rows go.
+    pub(crate) fn into_parts(self) -> (PutRows, O)
+        ensures { result ≡ (self.rows, self.out) }
     {
         let NewRows { rows, out, of: _ } = self;
-        drop(rows);
-        out
+        (rows, out)
     }
 }
 
@@ -109,6 +106,7 @@ fn differs(lacked_memory: bool) -> Stop
 fn put_piece<O: Sink>(rows: &mut PutRows, piece: &[u8], out: &mut O) -> Result<(), SinkFault>
     ensures puts { Puts piece.now result (rows_state rows.old).told (rows_state rows.new).told }
     ensures counts { Counts (result ≡ Err SinkFault.Failed) (rows_state rows.old) (rows_state rows.new) }
+    ensures shown { rows.new.shown ≡ rows.old.shown }
     ensures passes { (began : Outside (List (List ℕ))) → Passed began (O.state out.old) rows.old → Passed began (O.state out.new) rows.new }
 {
     if let Some(fault) = rows.fault() {
@@ -117,8 +115,9 @@ fn put_piece<O: Sink>(rows: &mut PutRows, piece: &[u8], out: &mut O) -> Result<(
     let Some(new) = new_part(rows.rest(), piece) else {
         return refuse(rows, piece, RowFault::Differs);
     };
-    if rows.add(piece, new).is_err() {
-        return Err(SinkFault::Memory);
+    match rows.add(piece, new) {
+        Ok(()) => {}
+        Err(Memory) => return Err(SinkFault::Memory),
     }
     if new.is_empty() {
         return Ok(());

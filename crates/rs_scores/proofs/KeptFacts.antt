@@ -1,5 +1,5 @@
 -- Scores that were written are read back.
-use Rattle.std.proofs.Common.{◌≡◌, ◌==◌, ◌+◌, ◌-◌, ◌<◌, ◌≤◌, ℕ, ℤ, pos, negsuc, zero, suc, Bool, true, false, List, [], ◌∷◌, ◌++◌, eqb-true, inl, inr, length, map, take, Option, Some, None, Result, Ok, Err, refl, sym, ap, ◌∙◌, subst, arith, append_assoc, length-append, get_or}
+use Rattle.std.proofs.Common.{◌≡◌, ◌==◌, ◌+◌, ◌-◌, ◌≤◌, ℕ, ℤ, pos, negsuc, zero, suc, Bool, true, false, List, [], ◌∷◌, ◌++◌, eqb-true, inl, inr, length, map, take, Some, Result, Ok, Err, refl, sym, ap, ◌∙◌, subst, arith, append_assoc, length-append}
 use Rattle.std.specs.Fmt.{signed_decimal}
 use Rattle.std.specs.List.{All, concat}
 use Rattle.std.specs.Prelude.{if◌then◌else◌, nat_abs, slice_index_or}
@@ -10,7 +10,7 @@ use Rattle.std.proofs.lemmas.Grind.{common_steps}
 use Rattle.std.proofs.lemmas.List.{append-nil}
 use Rattle.std.proofs.lemmas.Str.{IsUtf8-from_ascii, is_utf8-from_IsUtf8}
 use Rattle.csv.proofs.RoundTrip.{read-write}
-use Rattle.csv.specs.Reading.{default_config, is_bom, records, records_from, records_next, strip_bom}
+use Rattle.csv.specs.Reading.{default_config, is_bom, records_from, records_next, strip_bom}
 use Rattle.csv.specs.Writing.{read_back}
 use Rattle.csv.specs.declared.parser.State.TheVariants as st
 use Rattle.rs_value.specs.Number.{greatest_int, int_value}
@@ -21,7 +21,7 @@ use Rattle.rs_scores.specs.Known.{is_asked}
 use Rattle.rs_scores.specs.Lines.{known_line, known_lines}
 use Rattle.rs_scores.specs.Names.{is_marked}
 use Rattle.rs_scores.specs.Places.{is_record, place_after, place_behind}
-use Rattle.rs_scores.specs.Reading.{is_ended, known_in, known_of, score_in, scores_from, scores_in, texts_from, with_entry, with_record}
+use Rattle.rs_scores.specs.Reading.{is_ended, known_in, known_of, scores_from, scores_in, texts_from, with_entry, with_record}
 use Rattle.rs_scores.specs.declared.fault.KnownFault.{KnownFault}
 use Rattle.rs_scores.specs.declared.fault.KnownFault.TheVariants.{NotEnded}
 use Rattle.rs_scores.specs.declared.known_score.KnownScore.{KnownScore}
@@ -30,7 +30,7 @@ use Rattle.rs_scores.specs.declared.place.Place.TheVariants.{Closed, Field, Plai
 use Rattle.rs_scores.proofs.JoinFacts.{joins, records-none}
 use Rattle.rs_scores.proofs.LineFacts.{and-false, behind-line, length-line, unmarked-line}
 use Rattle.rs_scores.proofs.NumeralFacts.{int_value-signed}
-use Rattle.rs_scores.proofs.PlaceFacts.{length-strip_bom, place_behind-append, strip_bom-unmarked}
+use Rattle.rs_scores.proofs.PlaceFacts.{place_behind-append, strip_bom-unmarked}
 
 -- the fields of a known score's record
 abbrev record_fields : KnownScore → List (List ℕ)

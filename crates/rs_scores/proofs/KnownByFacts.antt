@@ -1,5 +1,5 @@
 -- What is known by the bytes of a file that was fetched.
-use Rattle.std.proofs.Common.{ℕ, ◌≡◌, ◌∙◌, List, Option, Result, Ok, Err, ◌⊎◌, ap, inl, inr, subst, sym}
+use Rattle.std.proofs.Common.{ℕ, ◌≡◌, List, Option, Result, Ok, Err, ◌⊎◌, ap, inl, inr, subst, sym}
 use Rattle.rs_value.specs.Outside.{Outside}
 use Rattle.rs_value.specs.Results.{◌>>=◌}
 use Rattle.rs_outside.specs.Files.{FilesTold}
@@ -7,7 +7,6 @@ use Rattle.rs_events.specs.Fetching.{FetchFails, Fetched, FetchesFile, NotFetche
 use Rattle.rs_scores.specs.Known.{Known}
 use Rattle.rs_scores.specs.KnownBy.{IsKnownBy, KnowsBy, or_refused, score_bytes, scores_there}
 use Rattle.rs_scores.specs.Reading.{scores_in}
-use Rattle.rs_scores.specs.declared.known_score.KnownScore.{KnownScore}
 use Rattle.rs_scores.specs.declared.scores_fault.ScoresFault.{ScoresFault}
 use Rattle.rs_scores.specs.declared.scores_fault.ScoresFault.TheVariants.{Memory}
 

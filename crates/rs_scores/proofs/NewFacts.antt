@@ -1,7 +1,7 @@
 -- Scores of questions that had none.
-use Rattle.std.proofs.Common.{◌≡◌, ◌<◌, ℕ, ℤ, zero, suc, true, false, inl, inr, List, [], ◌∷◌, ◌++◌, length, Option, Some, None, cond, sym, ap, ◌∙◌, subst, arith, append_assoc, refl}
+use Rattle.std.proofs.Common.{◌≡◌, ℕ, ℤ, true, false, inl, inr, List, [], ◌∷◌, ◌++◌, Some, None, cond, sym, ap, ◌∙◌, subst, arith, append_assoc, refl}
 use Rattle.std.specs.List.{All}
-use Rattle.std.specs.Prelude.{find, if◌then◌else◌, option_map}
+use Rattle.std.specs.Prelude.{find, option_map}
 use Rattle.std.proofs.lemmas.Bool.{cases_Bool}
 use Rattle.std.proofs.lemmas.List.Elements.{All-cons}
 use Rattle.rs_expr.specs.declared.scorer.Call.{Call}

@@ -1,5 +1,5 @@
 -- A number in decimal digits is read back.
-use Rattle.std.proofs.Common.{◌≡◌, ℕ, ℤ, ◌+◌, ◌-◌, ◌*◌, ◌^◌, ◌<◌, ◌≤◌, ◌==◌, length, ◌&&◌, pos, negsuc, suc, true, false, List, [], ◌∷◌, Some, option_map, refl, ap, ◌∙◌, arith, lit<}
+use Rattle.std.proofs.Common.{◌≡◌, ℕ, ℤ, ◌+◌, ◌-◌, ◌*◌, ◌^◌, ◌<◌, ◌≤◌, ◌==◌, length, pos, negsuc, suc, true, false, List, [], ◌∷◌, Some, option_map, refl, ap, ◌∙◌, arith, lit<}
 use Rattle.std.specs.Char.{is_ascii_digit}
 use Rattle.std.specs.Fmt.{decimal, signed_decimal}
 use Rattle.std.specs.List.{list_all}
@@ -7,7 +7,7 @@ use Rattle.std.specs.Prelude.{fold, nat_abs, neg_ℤ}
 use Rattle.std.proofs.lemmas.Bool.{and_parts, le-leb, leb-true, ne_eqb}
 use Rattle.std.proofs.lemmas.Fmt.{decimal_nonempty, digits_decimal, digits_value-decimal}
 use Rattle.std.proofs.lemmas.Str.Parse.{IsDigitsTest, IsNumeralModel, numerals_by_fold}
-use Rattle.rs_value.specs.Number.{are_digits, decimal_value, greatest_int, int_value, number_of}
+use Rattle.rs_value.specs.Number.{decimal_value, greatest_int, int_value, number_of}
 
 -- a digit is a byte from 48 to 57
 digit-low : (c : ℕ) → is_ascii_digit c ≡ true → 48 ≤ c

@@ -1,7 +1,7 @@
 -- A byte order mark at the front, and the places behind bytes.
 use Rattle.std.proofs.Common.{◌≡◌, ℕ, true, false, List, [], ◌∷◌, ◌++◌, ap, drop, inl, inr, length, ◌≤◌, arith, length-drop, refl}
 use Rattle.std.proofs.lemmas.Bool.{cases_Bool}
-use Rattle.csv.specs.Reading.{is_bom, strip_bom}
+use Rattle.csv.specs.Reading.{strip_bom}
 use Rattle.rs_scores.specs.Names.{is_marked}
 use Rattle.rs_scores.specs.Places.{place_after, place_behind}
 use Rattle.rs_scores.specs.declared.place.Place.{Place}

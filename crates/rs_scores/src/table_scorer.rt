@@ -21,8 +21,8 @@ enum Answer {
 }
 
 /// A scorer over a table of known scores. It answers a call of a predicate that is asked for outside by its known score, and
-/// fails where none is known; for each other call it answers the value of the predicate's formula. It keeps the calls, and
-/// the question of the last one where that one failed, and the greatest score of its predicate.
+/// fails where none is known; for each other call it answers the value of the predicate's formula. It keeps the calls, the
+/// question of the last one where that one failed, and the greatest score of its predicate.
 #[derive(Drop)]
 pub struct TableScorer<'a> {
     known: &'a KnownScores,
@@ -118,6 +118,10 @@ impl<'a> TableScorer<'a> {
     }
 
     /// The question of the last call, where that one failed: its score is asked for and isn't known.
+    ///
+    /// # Errors
+    ///
+    /// - `None`: exactly where there was no call, or the last one is of a predicate that isn't asked for, or its score is known.
     pub fn into_missing(self) -> Option<Question>
         ensures value { result ≡ self.entry.missing }
         ensures last { result ≡ missing_last self.entry.known self.entry.calls }

@@ -1,15 +1,5 @@
-use Rattle.std.proofs.Common.{◌≡◌, ◌-◌, ◌^◌, length}
-use Rattle.rs_ask.proofs.AskingFacts.{Going}
-use Rattle.rs_ask.specs.Asking.{channel_state}
+use Rattle.std.proofs.Common.{[]}
 use Rattle.rs_ask.proofs.asking.ask_and_run.Given as goal
 
-abbrev pub invariant-loop-pass : goal.invariant-loop-pass
-invariant-loop-pass g l = record {
-  before : l.before ≡ length l.fn.known.scores;
-  going : Going g.R.Rerun.ran l.pass l.answers l.fn.runs l.fn.known l.runs l.known
-      (record { channel = channel_state g.Q.Sink.state g.A.Answers.state g.K.Sink.state l.fn.channel; out = g.O.Sink.state l.fn.out })
-      (record { channel = channel_state g.Q.Sink.state g.A.Answers.state g.K.Sink.state l.channel; out = g.O.Sink.state l.out });
-}
-
-abbrev pub decreases-loop-pass : goal.decreases-loop-pass
-decreases-loop-pass g l = 2 ^ 63 - length l.known.scores
+abbrev pub ghosts-ask_all : goal.ghosts-ask_all
+ghosts-ask_all g a = record { out = g.O.Sink.state a.out; shown = [] }

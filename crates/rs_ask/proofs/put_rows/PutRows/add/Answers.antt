@@ -1,4 +1,4 @@
-use Rattle.std.proofs.Common.{◌≡◌, ◌≤◌, ◌∙◌, ◌++◌, ◌∷◌, [], List, ℕ, ap, arith, length, length-append, subst, sym}
+use Rattle.std.proofs.Common.{◌≡◌, ◌≤◌, ◌∙◌, ◌++◌, ◌∷◌, [], ap, arith, length, length-append, rules, subst, sym}
 use Rattle.std.specs.List.{concat}
 use Rattle.rs_outside.specs.Sink.{IsPrefix}
 use Rattle.rs_ask.specs.PutRows.{PutRowsState, pieces_of, total}
@@ -12,7 +12,7 @@ invariant_of-self-2 c =
     let goes : IsPrefix (concat (pieces_of old.lengths.items old.bytes.items) ++ c.args.piece.now) (old.bytes.items ++ c.args.new.now) =
     subst (λ (rows : PutRowsState). IsPrefix (concat rows.pieces ++ c.args.piece.now) (rows.bytes ++ c.args.new.now)) (sym c.self.view_is) c.requires in
     let items : c.extend_from_slice.new.self.items ≡ old.bytes.items ++ c.args.new.now = c.in_ok-extend_from_slice.ensures.items in
-    let lengths : c.push.new.self.items ≡ old.lengths.items ++ length c.args.piece.now ∷ [] = c.push.ensures.items ∙ ap (λ (ls : List ℕ). ls ++ length c.args.piece.now ∷ []) c.in_ok-reserve.ensures.items in
+    let lengths : c.push.new.self.items ≡ old.lengths.items ++ length c.args.piece.now ∷ [] = search rules in
     record {
       before = omega (arith, c.self.invariant.before, ap length items, length-append old.bytes.items c.args.new.now);
       at = omega (arith, c.self.invariant.at, ap total lengths, total-push old.lengths.items (length c.args.piece.now));
@@ -28,6 +28,6 @@ returns-clause-ok c =
     subst (λ (rows : PutRowsState). IsPrefix (concat rows.pieces ++ c.args.piece.now) (rows.bytes ++ c.args.new.now)) (sym c.self.view_is) c.requires in
     held-add old.before old.bytes.items c.extend_from_slice.new.self.items old.lengths.items c.push.new.self.items old.refused.items old.fault old.faults c.args.piece.now c.args.new.now
     c.in_ok-extend_from_slice.ensures.items
-    (c.push.ensures.items ∙ ap (λ (ls : List ℕ). ls ++ length c.args.piece.now ∷ []) c.in_ok-reserve.ensures.items)
+    (search rules)
     c.self.invariant.before within goes
     ∙ ap (λ (rows : PutRowsState). record rows { bytes = rows.bytes ++ c.args.new.now; pieces = rows.pieces ++ c.args.piece.now ∷ [] }) c.self.view_is

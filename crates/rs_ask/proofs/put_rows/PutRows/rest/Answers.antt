@@ -1,7 +1,7 @@
-use Rattle.std.proofs.Common.{◌∙◌, ◌++◌, ◌-◌, List, ℕ, ap, arith, drop, length, length-drop, sym, take}
+use Rattle.std.proofs.Common.{◌∙◌, ◌++◌, ◌-◌, ap, arith, drop, length, length-drop, sym}
 use Rattle.std.specs.List.{concat}
 use Rattle.std.proofs.lemmas.List.{take_all}
-use Rattle.rs_ask.specs.PutRows.{PutRowsState, pieces_of}
+use Rattle.rs_ask.specs.PutRows.{pieces_of}
 use Rattle.rs_ask.proofs.PutRowsFacts.{pieces_of-split}
 use Rattle.rs_ask.proofs.put_rows.PutRows.rest.Goals as goal
 
