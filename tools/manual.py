@@ -99,17 +99,19 @@ def statuses():
             made += [".TP", escaped(f"**{status}**")]
         else:
             made += [".br"]
-        line = re.sub(r" ?` and a text of the \w+ table", " TEXT`, with one of the texts below", line)
+        line = re.sub(r" ?` and a text .*", " TEXT`, with one of the texts below", line)
         made.append(escaped((f"{line}: " if line != "(none)" else "") + comes.rstrip(".")) + ".")
     return made
 
 
 def texts():
     """The texts of the fault lines of tables and of scripts."""
-    lines = section("docs/FORMATS.md", "Statuses and fault lines")
+    tables = section("docs/FORMATS.md", "Statuses and fault lines")
+    scripts = section("docs/GRAMMAR.md", "How a wrong script is told")
     return [
-        ".SS Texts of a table's fault", *entries(table(lines, "text")),
-        ".SS Texts of a script's fault", "The number is the place of a byte in the script, counted from 0.", *entries(table(lines, "text of a script")),
+        ".SS Texts of a table's fault", *entries(table(tables, "text")),
+        ".SS Lines of a script's fault", "N is the place of a byte in the script, counted from 0.", *entries(table(scripts, "line")),
+        ".PP", "VARIANT is one of these.", *entries(table(scripts, "variant")),
     ]
 
 
@@ -157,10 +159,10 @@ def page():
         ".SH DESCRIPTION",
         "Ranks the best few combinations of rows of several tables by a weighted sum of scores. A script makes tables from CSV files,",
         "predicates that give scores, and indexes by score, and asks queries. \\fBplain\\fR scores every combination and then prints.",
-        "\\fBrun\\fR chooses a plan by a sample, prints each row before it looks for the next one, and calls predicates only as far as the",
-        "order of the rows needs. Both print the same rows in the same order.",
+        "\\fBrun\\fR chooses a plan by a sample, prints each row before it looks for the next one, and calls predicates as the",
+        "plan needs them. Both print the same rows in the same order.",
         "\\fBta\\fR answers queries over one table by threshold scans of its rank indexes, and says how many accesses each scan made.",
-        "\\fBfeed\\fR joins two files that are ranked already, and draws no row of either that its pairs don't need.",
+        "\\fBfeed\\fR joins two files that are ranked already, and draws exactly the rows that the thresholds of its join ask for.",
         "\\fBcert\\fR prints the rows that it drew with the answer, and \\fBcheck\\fR says whether they prove it.",
         "\\fBview\\fR keeps the first rows of its queries up to date while rows join their tables, and calls predicates for new combinations alone.",
         ".SH WORDS",

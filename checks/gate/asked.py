@@ -184,7 +184,7 @@ def try_example():
         lines = first.stdout.splitlines()
         paid = len(scores.read_text().splitlines())
         check("the example", first.returncode == 0 and len(lines) == 11 and lines[-1].startswith(f"status 0: {paid} answers for "), first)
-        check("        its first row comes before the last answer", int(lines[0].split()[2]) < paid, lines)
+        check("        its first row comes before the last answer", int(lines[0].split()[0]) < paid, lines)
         budget = subprocess.run(words[:3] + [str(pathlib.Path(name) / "few.csv")], cwd=ROOT, env={**os.environ, "DELAY": "0", "BUDGET": "5"},
             capture_output=True, text=True, timeout=600)
         check("        it stops at a budget", budget.returncode == 0 and "status 8: 5 answers for " in budget.stdout, budget)

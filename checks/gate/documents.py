@@ -8,12 +8,13 @@ A document's indented blocks are looked at one after another:
 - a block of printed rows, of a plan or of a fault has to stand, line after line, in what a command of the document printed, the
   examples' files of output, or a table file of the examples;
 - a block of statements has to be of the language, whatever else is wrong with it.
+In README.md and docs/THEOREM.md each block has to be one of these, or lines of a source that the page has a link to.
 The file behind the words `The file` in front of a command is what that command reads. Each script of examples/ says in a comment
 which commands its file of output comes from. The rows of the tables that have a script and what is told are run too. The manual
 pages docs/ranksql.1 and docs/ranksql_ask.1 have to be what tools/manual.py makes.
 
 It prints a line for each thing that it looked at, and ends with 1 where one fails. The program is crates/ranksql/out/ranksql, or the
-one that the variable RANKSQL names."""
+one that the variable RANKSQL names; ./try is it too. So is crates/ranksql_ask/out/ranksql_ask, or the one that RANKSQL_ASK names."""
 
 import gzip
 import os
@@ -24,9 +25,20 @@ import tempfile
 import textwrap
 
 ROOT = os.path.dirname(os.path.dirname(os.path.dirname(os.path.realpath(__file__))))
-PROGRAM = os.path.abspath(os.environ.get("RANKSQL") or os.path.join(ROOT, "crates", "ranksql", "out", "ranksql"))
+
+
+def built(name):
+    """The built program of this name, or the one that the variable of this name says."""
+    return os.path.abspath(os.environ.get(name.upper()) or os.path.join(ROOT, "crates", name, "out", name))
+
+
+PROGRAM, ASKING = built("ranksql"), built("ranksql_ask")
+# The scripts at the top of the repository that build a program and run it, each with the program.
+SCRIPTS = {"ranksql": PROGRAM, "try": PROGRAM, "ranksql_ask": ASKING}
 
 DOCUMENTS = ["README.md", "docs", "examples"]
+# The documents in which each block is looked at.
+WHOLE = ("README.md", "docs/THEOREM.md")
 
 # Commands that are shown and not run here, each with its reason.
 LEFT_OUT = (
@@ -39,10 +51,10 @@ LEFT_OUT = (
 )
 # A word in capitals stands for something that a user chooses.
 FORM = re.compile(r"(?<![\w'\"$-])(FILE|COLUMN|MAX|K|SCRIPT|SEED|NUMBER|ROWS|PREFIX|OLD|NEW|NAME|N|WORD)(?![\w'\"=])")
-COMMAND = re.compile(r"(\./)?(ranksql|install|tools/\S+|examples/\S+\.sh|checks/\S+|bench/\S+|\.ci/run|python3|zcat|cat|head|tail|cd|rt|man|git|N=\d+;|cases=)(?= |$|\S*$)")
-INLINE = re.compile(r"((\./)?ranksql )?(top|plain|run|gen) \S+|tools/(why|prepare|advise) \S+")
+COMMAND = re.compile(r"(\./)?(ranksql|ranksql_ask|try|install|tools/\S+|examples/\S+\.(sh|py)|checks/\S+|bench/\S+|\.ci/run|python3|zcat|cat|head|tail|cd|rt|man|git|N=\d+;|cases=)(?= |$|\S*$)")
+INLINE = re.compile(r"((\./)?(ranksql|try) )?(top|plain|run|gen) \S+|tools/(why|prepare|advise) \S+")
 STATEMENT = re.compile(r"(CREATE (TABLE|PREDICATE|RANK INDEX)|INSERT INTO|SELECT|EXPLAIN|DECLARE|FETCH|CLOSE) ")
-PRINTED = re.compile(r"\d+,-?\d+,|\d+,-?\d+$|\s*(SeqScan|RankScan|Rank|HashRankJoin|NestedRankJoin|Distinct|Union|UnionAll|Intersect|Except) .*est=")
+PRINTED = re.compile(r"\d+,-?\d+,|\d+,-?\d+$|\s*(SeqScan|RankScan|Rank|HashRankJoin|NestedRankJoin|Distinct|Union|UnionAll|Intersect|Except) .*est=|status \d|(calls|depth|left)=\d|\d+ answers  ")
 FAULT = re.compile(r"(script|session|table|score|read|usage): ")
 
 failures = 0
@@ -70,16 +82,17 @@ def documents():
 
 
 class Folder:
-    """A folder that has what the repository has, with a script ./ranksql that runs the built program, and the files that the
-    commands of the documents name as if they were a user's."""
+    """A folder that has what the repository has, with scripts that run the built programs, and the files that the commands of
+    the documents name as if they were a user's."""
 
     def __init__(self, path):
         self.path = path
         for name in os.listdir(ROOT):
-            if name not in ("ranksql", ".git"):
+            if name not in (*SCRIPTS, ".git"):
                 os.symlink(os.path.join(ROOT, name), os.path.join(path, name))
-        self.write("ranksql", f"#!/bin/sh\nexec '{PROGRAM}' \"$@\"\n".encode())
-        os.chmod(os.path.join(path, "ranksql"), 0o755)
+        for name, program in SCRIPTS.items():
+            self.write(name, f"#!/bin/sh\nexec '{program}' \"$@\"\n".encode())
+            os.chmod(os.path.join(path, name), 0o755)
         with open(os.path.join(ROOT, "examples", "hotels.csv"), "rb") as file:
             hotels = file.read()
         self.write("hotels.csv.gz", gzip.compress(hotels))
@@ -93,13 +106,18 @@ class Folder:
 
     def run(self, command):
         """What a command of a shell does: its status, and what it prints on both streams."""
-        environment = {**os.environ, "RANKSQL": PROGRAM, "PATH": self.path + os.pathsep + os.environ.get("PATH", "")}
+        environment = {**os.environ, "RANKSQL": PROGRAM, "RANKSQL_ASK": ASKING, "PATH": self.path + os.pathsep + os.environ.get("PATH", "")}
         try:
             ended = subprocess.run(["bash", "-c", command], cwd=self.path, env=environment, stdin=subprocess.DEVNULL,
                                    capture_output=True, timeout=300)
         except subprocess.TimeoutExpired:
             return 124, "", "it took more than 300 seconds"
         return ended.returncode, ended.stdout.decode("utf-8", "replace"), ended.stderr.decode("utf-8", "replace")
+
+    def forget(self, name):
+        """Takes a file away that a command of another document may have made."""
+        if os.path.exists(os.path.join(self.path, name)):
+            os.remove(os.path.join(self.path, name))
 
     def told(self, script):
         """The fault line of a script that is run plainly."""
@@ -160,6 +178,8 @@ class Document:
         with open(os.path.join(ROOT, self.name), encoding="utf-8") as file:
             text = file.read()
         found = list(parts(text))
+        self.sources = re.findall(r"\]\(([^)#]+\.(?:rt|antt))\)", text)
+        self.folder.forget("scores.csv")
         self.faults = [what for kind, what in found if kind == "block" and FAULT.match(what[0])]
         # A fault line or rows may stand in front of their command in a sentence, so the commands come first.
         for kind, what in found:
@@ -210,6 +230,16 @@ class Document:
         elif STATEMENT.match(lines[0]) and lines[-1].rstrip().endswith(";"):
             told = self.folder.told("\n".join(lines))
             tell(not re.match(r"script: (lex|parse|NotUtf8)", told), f"{self.name}: the statement `{lines[0][:60]}` ..", told)
+        elif self.name in WHOLE and not COMMAND.match(lines[0]):
+            tell(any(contains(source, [line.strip() for line in lines]) for source in map(self.source, self.sources)), f"{self.name}: the lines `{lines[0][:60]}` ..", "\n".join(lines))
+
+    def source(self, name):
+        """The lines of a source that the document has a link to, without the blanks in front."""
+        path = os.path.join(ROOT, os.path.dirname(self.name), name)
+        if not os.path.exists(path):
+            return []
+        with open(path, encoding="utf-8") as file:
+            return [line.strip() for line in file]
 
     def row(self, line):
         """A row of a table whose first cell is a script and whose second one is what is told of it."""

@@ -313,7 +313,7 @@ while IFS= read -r script; do
     # `plain` and `run`.
     words=(plain run)
     case $script in
-        */plans.sql | */analyzed.sql | */savings.sql | */tops.sql) words=(run) ;;
+        */plans.sql | */analyzed.sql | */savings.sql | */tops.sql | examples/calls.sql) words=(run) ;;
         */threshold.sql) words=(ta) ;;
         */board.sql) words=(view) ;;
         *) ! grep -q '^EXPLAIN' "$root/$script" || words=(plain) ;;
@@ -573,6 +573,11 @@ if [ -x "$counter" ]; then
     count 'the calls of the films, plainly' 8680 plain examples/films/best.sql
     count 'the calls of the films by a plan' 5576 run examples/films/best.sql 1
     count 'the calls of the first film by a plan' 5534 run "$work/in/one.sql" 1
+    # README.md says these: of each query 3,680 plainly; by a plan 31 behind the 512 of a sample, and there EXPLAIN ANALYZE makes as many again.
+    count 'the calls of the first example of README.md, plainly' 8680 plain examples/calls.sql
+    count 'the calls of the first example of README.md by a plan' 6086 run examples/calls.sql 1
+    count 'the calls of a small table, plainly' 46 plain examples/first.sql
+    count 'the calls of a small table by a plan' 122 run examples/first.sql 1
     # 83 calls make the indexes. 1,260 combinations satisfy the condition, and plainly each has three calls.
     count 'the calls of the evenings, plainly' 3863 plain examples/travel/evening.sql
     count 'the calls of the evenings by a plan' 1092 run examples/travel/evening.sql 1
