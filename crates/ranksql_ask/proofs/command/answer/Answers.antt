@@ -1,12 +1,14 @@
 -- The script makes the predicates that are asked for, or not.
-use Rattle.std.proofs.Common.{List, ℕ, ◌≡◌, ap, inl, refl, subst}
+use Rattle.std.proofs.Common.{List, [], ◌∷◌, ℕ, ◌≡◌, ap, inl, refl, subst}
 use Rattle.std.specs.Prelude.{None, Option, Some, option_map}
 use Rattle.rs_value.specs.Outside.{Outside}
 use Rattle.rs_outside.specs.Files.{FilesTold}
 use Rattle.rs_events.specs.Events.{finds_in}
 use Rattle.rs_run.specs.Naming.{Looks}
 use Rattle.rs_scores.specs.KnownFiles.{known_state}
-use Rattle.ranksql_ask.specs.Endings.{RunsOnce}
+use Rattle.rs_run.specs.Status.{exit_status_of}
+use Rattle.ranksql_ask.specs.AskFaults.{NoPredicate, ask_line, ask_status}
+use Rattle.ranksql_ask.specs.Endings.{RunsOnce, Tells}
 use Rattle.ranksql_ask.specs.Parts.Asking.{form_of_asking}
 use Rattle.ranksql_ask.specs.Parts.Runners.{runner_of}
 use Rattle.ranksql_ask.proofs.CommandFacts.{Readies-map}
@@ -24,7 +26,7 @@ returns-in-Ok-None g c = inl (record {
   name = None;
   seen = known_state (g.G.Files.state c.unmade_predicate.new.files.files);
   looks = looked _ _ _ _ _ _ _ _ c.deref.ensures.value (ap (λ known. known_state (g.G.Files.state known.files)) c.new-files.ensures)
-  (ap (option_map (λ name. name.now)) c.in-Ok-None.field-0-is) c.in-Ok-None.ensures;
+      (ap (option_map (λ name. name.now)) c.in-Ok-None.field-0-is) c.in-Ok-None.ensures;
   does = (
     runner_of g.G.Files.state c.make_ready.new.runs,
     Readies-map (runner_of g.G.Files.state) _ RunsOnce (λ old known pass new rows puts did. (did.0, ap form_of_asking did.1)) _ _ _ _ _ _ _ _ _ c.make_ready.ensures,
@@ -36,6 +38,14 @@ returns-in-Ok-Some g c = inl (record {
   name = Some c.in-Ok-Some.name.now;
   seen = known_state (g.G.Files.state c.unmade_predicate.new.files.files);
   looks = looked _ _ _ _ _ _ _ _ c.deref.ensures.value (ap (λ known. known_state (g.G.Files.state known.files)) c.new-files.ensures)
-  (ap (option_map (λ name. name.now)) c.in-Ok-Some.field-0-is) c.in-Ok-Some.ensures;
-  does = (refl, refl, (refl, c.refuse_name.ensures));
+      (ap (option_map (λ name. name.now)) c.in-Ok-Some.field-0-is) c.in-Ok-Some.ensures;
+  does = (
+    refl,
+    refl,
+    (
+      refl,
+      subst (λ name. Tells (ask_line (NoPredicate name.now) ∷ []) (exit_status_of (ask_status (NoPredicate name.now))) c.refuse_name.result (g.E.Sink.state c.args.err.now) (g.E.Sink.state c.refuse_name.new.err))
+          c.in-Ok-Some.name-is c.refuse_name.ensures,
+    ),
+  );
 })
