@@ -26,7 +26,8 @@ pub fn good_certificates_are_sound()
 /// feeds without further rows have them, and these don't: the answer can't be known without a further draw.
 ///
 /// These feeds have the rows of the certificate, and no more where its rows have other first pairs. Else one side that hasn't ended has
-/// one row more, with the score of its last row and the text of the first row of the other side. Where no side has a row, both have one.
+/// one row more, with the score of its last row, or 0, and the text of the first row of the other side. Where no side has a row, both
+/// have one.
 ///
 /// There is one exception: `Left` is also told where the sum of the last pair is that of the last left row and the first right one. Such
 /// a certificate has such feeds exactly where its right side isn't reached either.

@@ -1,5 +1,5 @@
 -- How often two feeds were drawn for the pairs that were put.
-use Rattle.std.proofs.Common.{ℕ, zero, suc, append-nil, true, ◌≡◌, ◌∙◌, ◌⊎◌, ◌+◌, ◌<◌, ◌≤◌, ◌++◌, inl, inr, min, List, [], ◌∷◌, length, map, find, slice_get, Option, Some, None, Result, Ok, Err, refl, sym, ap, subst, arith}
+use Rattle.std.proofs.Common.{ℕ, zero, suc, append-nil, true, ◌≡◌, ◌∙◌, ◌+◌, ◌<◌, ◌≤◌, ◌++◌, inr, min, List, [], ◌∷◌, length, map, find, slice_get, Option, Some, None, Result, Ok, Err, sym, ap, subst, arith}
 use Rattle.std.proofs.lemmas.List.{map-append}
 use Rattle.rs_feed.specs.declared.feed_row.FeedRow.{FeedRow}
 use Rattle.rs_table_feed.specs.TableFeeds.{TableFeedState}
