@@ -1,8 +1,5 @@
 -- What two scorers share that answer alike: the rows of a plan's first asks, and their questions.
-use Rattle.std.proofs.Common.{◌≡◌, ◌∙◌, ℕ, zero, suc, ◌+◌, ◌-◌, ◌*◌, ◌<◌, ◌≤◌, Bool, true, false, not, cond, List, [], ◌∷◌, ◌++◌, length, map, take, drop, get_or, bit_or, Option, Some, refl, sym, ap, ap₂, subst, inl, inr, arith}
-use Rattle.std.proofs.lemmas.List.{take-map}
-use Rattle.std.specs.Prelude.{Result, Err, option_map}
-use Rattle.rs_expr.specs.Scores.{is_score}
+use Rattle.std.proofs.Common.{◌≡◌, ◌∙◌, ℕ, zero, suc, ◌+◌, ◌-◌, ◌*◌, ◌<◌, ◌≤◌, cond, List, [], ◌∷◌, ◌++◌, length, map, take, drop, get_or, bit_or, Option, Some, refl, sym, ap, ap₂, subst, inl, inr, arith}
 use Rattle.std.proofs.lemmas.Option.{get_or_from_slice_get, slice_get_cases}
 use Rattle.std.specs.List.{AllByRecursion, flat_map, slice_get}
 use Rattle.std.specs.Ordering.{is_lt, is_gt}
@@ -26,32 +23,25 @@ use Rattle.rs_expr.specs.Scoring.{Answering}
 use Rattle.rs_catalog.specs.Catalog.{CatalogDef}
 use Rattle.rs_query.specs.Answers.{clamped, predicate_at, worth_of}
 use Rattle.rs_query.specs.Blocks.{block_in}
-use Rattle.rs_query.specs.Questions.{Question, asking, call_for, first_of, got_for, ids_for, is_bad, max_for, outcome_for, question_of, request_for, through_first}
+use Rattle.rs_query.specs.Questions.{Question, got_for, question_of}
 use Rattle.rs_query.specs.Tables.{sizes_of}
 use Rattle.rs_query.specs.WellFormed.{IsQuery}
 use Rattle.rs_query.specs.declared.query.Query.{Query}
 use Rattle.rs_filter.specs.Matching.{IsView}
-use Rattle.rs_plan.specs.Calls.{calls_of_plan, own_question, questions, questions_of_ask}
+use Rattle.rs_plan.specs.Calls.{own_question, questions, questions_of_ask}
 use Rattle.rs_plan.specs.Counts.{asked_of}
-use Rattle.rs_plan.specs.Lists.{World, key_under, list_of, row_under, sizes_in, sources, weights_in, worths}
-use Rattle.rs_plan.specs.Trees.{Distinct, JoinOperator, Rank, RankScan, SeqScan, SetOperator, PlanTree}
+use Rattle.rs_plan.specs.Lists.{World, list_of, sizes_in, sources, weights_in}
+use Rattle.rs_plan.specs.Trees.{Rank, PlanTree}
 use Rattle.rs_exec.specs.Asked.{HasBlock, IsBoundedWorld}
-use Rattle.rs_exec.specs.Asking.{exec_faults, world_of}
-use Rattle.rs_exec.specs.Certifying.{AnswerAlike, AnswersFit, IsRankedScan}
-use Rattle.rs_exec.specs.Cursors.{answer_for, answers_of, next_answer}
-use Rattle.rs_exec.specs.declared.fault.ExecFault.{ExecFault}
-use Rattle.rs_exec.specs.Indexes.{PlanIndexesHold}
+use Rattle.rs_exec.specs.Asking.{world_of}
+use Rattle.rs_exec.specs.Certifying.{AnswerAlike}
 use Rattle.rs_exec.specs.Parts.{IsPartOf}
 use Rattle.rs_exec.specs.Standing.{evaluation_for}
-use Rattle.rs_exec.proofs.BlockFacts.{first-block, sizes-are}
-use Rattle.rs_exec.proofs.CursorFacts.{bounded-world}
-use Rattle.rs_exec.proofs.PlacesFacts.{plan-part}
-use Rattle.rs_exec.proofs.IndexListFacts.{index-list}
+use Rattle.rs_exec.proofs.BlockFacts.{sizes-are}
 use Rattle.rs_exec.proofs.ListFacts.{IsView-itself, list-length}
 use Rattle.rs_exec.proofs.OperatorFacts.{puts-are, puts_of, questions-are}
 use Rattle.rs_exec.proofs.PartFacts.{grows}
 use Rattle.rs_exec.proofs.RankFacts.{rank-asks, rank-child_asks, rank-input, rank-list}
-use Rattle.rs_exec.proofs.TableFacts.{sum-none}
 
 -- items are put in order alike by keys that are the same
 put-same : {X K : Type 0} (cmp : K → K → Ordering) (key other : X → K) (x : X) (ys : List X) → key x ≡ other x → AllByRecursion (λ y. key y ≡ other y) ys → put cmp key x ys ≡ put cmp other x ys
@@ -162,8 +152,8 @@ module _ (catalogue : CatalogDef) (answer other : Answering) (query : Query) whe
   Certifies number tree = (a : ℕ) → AnswerAlike catalogue answer other (questions (world_of catalogue answer query) number tree a) → Share number tree a
 
   module _ (number : ℕ) (are : AreWorlds number) where
-    view : IsView (sizes_in w number) (sizes_of catalogue (block_in query number))
-    view = subst (λ (sizes : List ℕ). IsView sizes (sizes_of catalogue (block_in query number))) (sym (sizes-are catalogue answer query number are.has)) (IsView-itself (sizes_of catalogue (block_in query number)))
+    pub whole-view : IsView (sizes_in w number) (sizes_of catalogue (block_in query number))
+    whole-view = subst (λ (sizes : List ℕ). IsView sizes (sizes_of catalogue (block_in query number))) (sym (sizes-are catalogue answer query number are.has)) (IsView-itself (sizes_of catalogue (block_in query number)))
 
     module _ (term : ℕ) (child : PlanTree) (part : IsPartOf catalogue query number (Rank term child)) (below : Certifies number child) (same : sources w number child ≡ sources v number child) where
       abbrev e : Evaluation
@@ -208,7 +198,7 @@ module _ (catalogue : CatalogDef) (answer other : Answering) (query : Query) whe
         child-alike : (i : ℕ) → i ≤ j → AnswerAlike catalogue answer other (questions w number child i)
         child-alike zero le = subst (AnswerAlike catalogue answer other) (sym (questions-are w number child 0)) tt
         child-alike (suc i) le =
-            subst (AnswerAlike catalogue answer other) (sym (grows w number child i are.formed are.has are.bounded view part.0 are.weights))
+            subst (AnswerAlike catalogue answer other) (sym (grows w number child i are.formed are.has are.bounded whole-view part.0 are.weights))
             (each-append (λ (q : Question). got_for answer catalogue q ≡ got_for other catalogue q) (questions w number child i) (questions_of_ask w number child (suc i))
             (child-alike i (omega arith))
             (each-front (λ (q : Question). got_for answer catalogue q ≡ got_for other catalogue q) (questions_of_ask w number child (suc i)) (own_question w term (slice_get rows i)) (put-alike i (omega arith))))
@@ -296,104 +286,3 @@ module _ (catalogue : CatalogDef) (answer other : Answering) (query : Query) whe
                 ∙ ap (λ count. flat_map (puts_of v number (Rank term child)) (asks_from Left 1 count)) same_asks
                 ∙ sym (ap (flat_map (puts_of v number (Rank term child))) other_asks);
           }
-
-    -- without an evaluated term a row's sum is 0
-    unevaluated : (all : List Ids) → map (row_under w 0) all ≡ map (row_under v 0) all
-    unevaluated [] = refl
-    unevaluated (ids ∷ rest) =
-        ap₂ (λ (row : RankRow) (more : List RankRow). row ∷ more)
-        (ap (λ (sum : ℕ). record { ids = ids; sum = sum }) (sum-none (weights_in w).weight (worths w ids) ∙ sym (sum-none (weights_in v).weight (worths v ids))))
-        (unevaluated rest)
-
-    sources-shared : (tree : PlanTree) → IsRankedScan tree → sources w number tree ≡ sources v number tree
-    sources-shared (SeqScan entry) is = refl
-    sources-shared (RankScan entry term index) is = refl
-    sources-shared (Rank term child) is = sources-shared child is
-    sources-shared (JoinOperator kind left right) is = absurd is
-    sources-shared (Distinct child) is = absurd is
-    sources-shared (SetOperator left right) is = absurd is
-
-    -- a scan asks nothing, and rank operators over one certify their rows
-    pub certifies : (tree : PlanTree) → IsRankedScan tree → IsPartOf catalogue query number tree → PlanIndexesHold answer catalogue tree → PlanIndexesHold other catalogue tree → Certifies number tree
-    certifies (SeqScan entry) is part holds other_holds a alike =
-        record { rows = ap (λ (all : List RankRow). take a (sorted key_cmp (key_under w 0) all)) (unevaluated (sources w number (SeqScan entry))); asked = refl }
-    certifies (RankScan entry term index) is part holds other_holds a alike =
-        record {
-          rows = ap (take a) (index-list w number entry term index are.formed part holds (sizes-are catalogue answer query number are.has)
-              ∙ sym (index-list v number entry term index are.formed part other_holds (sizes-are catalogue other query number are.has)));
-          asked = refl;
-        }
-    certifies (Rank term child) is part holds other_holds a alike =
-        rank-certifies term child part (certifies child is part.0 holds other_holds) (sources-shared child is) a alike
-    certifies (JoinOperator kind left right) is part holds other_holds a alike = absurd is
-    certifies (Distinct child) is part holds other_holds a alike = absurd is
-    certifies (SetOperator left right) is part holds other_holds a alike = absurd is
-
-module _ (catalogue : CatalogDef) (answer other : Answering) where
-  -- questions that are answered alike end in the same
-  through-alike : (asked : List Question) → AnswerAlike catalogue answer other asked → through_first (is_bad answer catalogue) asked ≡ through_first (is_bad other catalogue) asked
-  through-alike [] alike = refl
-  through-alike (q ∷ asked) alike =
-      ap₂ (λ (b : Bool) (rest : List Question). q ∷ cond b [] rest) (ap (λ got. not (is_score (max_for catalogue q) got)) alike.0) (through-alike asked alike.1)
-
-  outcome-alike : {A : Type 0} (asked : List Question) (value : A) → AnswerAlike catalogue answer other asked
-      → outcome_for exec_faults answer catalogue (first_of (is_bad answer catalogue) asked) value ≡ outcome_for exec_faults other catalogue (first_of (is_bad other catalogue) asked) value
-  outcome-alike [] value alike = refl
-  outcome-alike (q ∷ asked) value alike =
-      go q asked value (is_bad answer catalogue q) (is_bad other catalogue q) alike.0 (ap (λ got. not (is_score (max_for catalogue q) got)) alike.0) (outcome-alike asked value alike.1) where
-        go : {A : Type 0} (q : Question) (asked : List Question) (value : A) (b c : Bool) → got_for answer catalogue q ≡ got_for other catalogue q → b ≡ c
-            → outcome_for exec_faults answer catalogue (first_of (is_bad answer catalogue) asked) value ≡ outcome_for exec_faults other catalogue (first_of (is_bad other catalogue) asked) value
-            → outcome_for exec_faults answer catalogue (cond b (Some q) (first_of (is_bad answer catalogue) asked)) value
-            ≡ outcome_for exec_faults other catalogue (cond c (Some q) (first_of (is_bad other catalogue) asked)) value
-        go q asked value true true own same rest = ap (λ got. Err (exec_faults.bad q.term.predicate (ids_for q) got (max_for catalogue q))) own
-        go q asked value false false own same rest = rest
-        go q asked value true false own same rest = absurd (cc)
-        go q asked value false true own same rest = absurd (cc)
-
-  asking-alike : {A : Type 0} (asked : List Question) (value : A) → AnswerAlike catalogue answer other asked → asking exec_faults answer catalogue asked value ≡ asking exec_faults other catalogue asked value
-  asking-alike {A} asked value alike =
-      ap₂ (λ (qs : List Question) (outcome : Result A ExecFault). record { requests = map (request_for exec_faults catalogue) qs; outcome = outcome })
-      (through-alike asked alike) (outcome-alike asked value alike)
-
--- a plan of one table
-module _ (catalogue : CatalogDef) (answer other : Answering) (query : Query) (tree : PlanTree) (n : ℕ) (is : IsRankedScan tree)
-    (fits : AnswersFit catalogue query tree answer) (other_fits : AnswersFit catalogue query tree other) where
-  pub are-worlds : AreWorlds catalogue answer other query 1
-  are-worlds = record {
-    formed = fits.formed;
-    has = first-block query;
-    bounded = bounded-world catalogue answer query fits.formed fits.bounded;
-    other_bounded = bounded-world catalogue other query fits.formed other_fits.bounded;
-    weights = fits.weights;
-  }
-
-  shared : (a : ℕ) → AnswerAlike catalogue answer other (questions (world_of catalogue answer query) 1 tree a) → Share catalogue answer other query 1 tree a
-  shared = certifies catalogue answer other query 1 are-worlds tree is (plan-part catalogue query tree fits.plan) fits.indexes other_fits.indexes
-
-  pub certified-rows : AnswerAlike catalogue answer other (questions (world_of catalogue answer query) 1 tree n)
-      → take n (answers_of (world_of catalogue answer query) tree) ≡ take n (answers_of (world_of catalogue other query) tree)
-  certified-rows alike =
-      take-map (answer_for (world_of catalogue answer query)) n (list_of (world_of catalogue answer query) 1 tree)
-      ∙ ap (map (answer_for (world_of catalogue answer query))) (shared n alike).rows
-      ∙ sym (take-map (answer_for (world_of catalogue other query)) n (list_of (world_of catalogue other query) 1 tree))
-
-  pub certified-calls : AnswerAlike catalogue answer other (questions (world_of catalogue answer query) 1 tree n)
-      → calls_of_plan (world_of catalogue answer query) tree n ≡ calls_of_plan (world_of catalogue other query) tree n
-  certified-calls alike = ap (map (call_for catalogue)) (shared n alike).asked
-
-  -- the questions of the last ask alone
-  pub certified-next : AnswerAlike catalogue answer other (questions (world_of catalogue answer query) 1 tree (suc n))
-      → next_answer (world_of catalogue answer query) tree n ≡ next_answer (world_of catalogue other query) tree n
-  certified-next alike =
-      let w = world_of catalogue answer query in
-      let v = world_of catalogue other query in
-      let view = subst (λ (sizes : List ℕ). IsView sizes (sizes_of catalogue (block_in query 1))) (sym (sizes-are catalogue answer query 1 (first-block query))) (IsView-itself (sizes_of catalogue (block_in query 1))) in
-      let split = subst (AnswerAlike catalogue answer other)
-      (grows w 1 tree n fits.formed (first-block query) are-worlds.bounded view (plan-part catalogue query tree fits.plan) fits.weights) alike in
-      let before = each-front (λ (q : Question). got_for answer catalogue q ≡ got_for other catalogue q) (questions w 1 tree n) (questions_of_ask w 1 tree (suc n)) split in
-      let last = each-behind (λ (q : Question). got_for answer catalogue q ≡ got_for other catalogue q) (questions w 1 tree n) (questions_of_ask w 1 tree (suc n)) split in
-      let now = shared (suc n) alike in
-      asking-alike catalogue answer other (questions_of_ask w 1 tree (suc n)) (option_map (answer_for w) (slice_get (list_of w 1 tree) n)) last
-      ∙ ap₂ (λ (asked : List Question) (row : Option RankRow). asking exec_faults other catalogue asked (option_map (answer_for w) row))
-      (ap₂ (λ (xs ys : List Question). drop (length xs) ys) (shared n before).asked now.asked)
-      (slice_get-shared n (list_of w 1 tree) (list_of v 1 tree) now.rows)

@@ -14,7 +14,7 @@ use Rattle.std.specs.declared.cmp.Ordering.{Ordering}
 use Rattle.std.specs.declared.cmp.Ordering.TheVariants.{Less, Equal, Greater}
 use Rattle.rs_order.specs.Asks.{IsNoFurther, bar_after, comes_before_bar, those_before}
 use Rattle.rs_order.specs.Climbing.{HasDistinctKeys, In}
-use Rattle.rs_order.specs.Schedule.{Left, asks_from}
+use Rattle.rs_order.specs.Schedule.{JoinSide, Left, Right, asks_from}
 use Rattle.rs_order.specs.Sorting.{sorted}
 use Rattle.rs_order.proofs.AsksFacts.{asks_for-more, get_or-asked, get_or-before}
 use Rattle.rs_order.proofs.ClimbingFacts.{cmp-not_itself}
@@ -40,15 +40,16 @@ use Rattle.rs_query.specs.Questions.{Question, call_for, got_for, question_of}
 use Rattle.rs_query.specs.declared.query.Query.{Query}
 use Rattle.rs_query.specs.declared.term.Term.{Term}
 use Rattle.rs_plan.specs.Asks.{child_asks}
-use Rattle.rs_plan.specs.Calls.{calls_of_plan, own_question, part_of, questions}
+use Rattle.rs_plan.specs.Calls.{calls_of_plan, own_question, part_of, side_part, questions}
 use Rattle.rs_plan.specs.Counts.{asked_of}
 use Rattle.rs_plan.specs.Lists.{World, list_of}
 use Rattle.rs_plan.specs.Trees.{Distinct, JoinOperator, Rank, RankScan, SeqScan, SetOperator, PlanTree}
 use Rattle.rs_ripple.specs.Stands.{BeginsWith}
 use Rattle.rs_exec.specs.Asking.{world_of}
-use Rattle.rs_exec.specs.Certifying.{AnswerAlike, AnswersFit, AsksNo, IsGreaterBy, IsRankedScan}
+use Rattle.rs_exec.specs.Certifying.{AnswerAlike, AnswersFit, AsksNo, IsGreaterBy, IsRankJoinTree}
 use Rattle.rs_exec.specs.Standing.{evaluation_for}
-use Rattle.rs_exec.proofs.CertifyFacts.{AreWorlds, Share, are-worlds, asks-alike, certifies, left_ask}
+use Rattle.rs_exec.proofs.CertifiedFacts.{are-worlds, certifies}
+use Rattle.rs_exec.proofs.CertifyFacts.{AreWorlds, Share, asks-alike, left_ask}
 use Rattle.rs_exec.proofs.OperatorFacts.{puts-are, puts_of}
 use Rattle.rs_exec.proofs.PlacesFacts.{plan-part}
 use Rattle.rs_exec.proofs.RankFacts.{asks_from-split, rank-asks, rank-child_asks, rank-input}
@@ -172,7 +173,12 @@ module _ (catalogue : CatalogDef) (query : Query) (predicate : ℕ) (lesser grea
   each-made P f [] each = tt
   each-made P f (x ∷ xs) each = each-append P (f x) (flat_map f xs) (each x) (each-made P f xs each)
 
-  quiet : (number : ℕ) (tree : PlanTree) → IsRankedScan tree → AsksNo query predicate tree → (a : ℕ) → AnswerAlike catalogue lesser greater (questions w number tree a)
+  side-quiet : (left right : ℕ → List Question) → ((a : ℕ) → AnswerAlike catalogue lesser greater (left a)) → ((a : ℕ) → AnswerAlike catalogue lesser greater (right a))
+      → (side : JoinSide) (n : ℕ) → AnswerAlike catalogue lesser greater (side_part left right (record { side = side; number = n }))
+  side-quiet left right lefts rights Left n = part-quiet left lefts n
+  side-quiet left right lefts rights Right n = part-quiet right rights n
+
+  quiet : (number : ℕ) (tree : PlanTree) → IsRankJoinTree tree → AsksNo query predicate tree → (a : ℕ) → AnswerAlike catalogue lesser greater (questions w number tree a)
   quiet number (SeqScan entry) ranked without a = tt
   quiet number (RankScan entry term index) ranked without a = tt
   quiet number (Rank term child) ranked without a =
@@ -180,11 +186,13 @@ module _ (catalogue : CatalogDef) (query : Query) (predicate : ℕ) (lesser grea
       each-append (λ (q : Question). got_for lesser catalogue q ≡ got_for greater catalogue q) (part_of (questions w number child) ask.number) (own_question w term (slice_get (list_of w number child) (ask.number - 1)))
       (part-quiet (questions w number child) (quiet number child ranked without.1) ask.number)
       (own-quiet term without.0 (slice_get (list_of w number child) (ask.number - 1))))
-  quiet number (JoinOperator kind left right) ranked without a = absurd ranked
+  quiet number (JoinOperator kind left right) ranked without a =
+      each-made (λ (q : Question). got_for lesser catalogue q ≡ got_for greater catalogue q) (puts_of w number (JoinOperator kind left right)) (child_asks w number (JoinOperator kind left right) a) (λ ask.
+      side-quiet (questions w number left) (questions w number right) (quiet number left ranked.0 without.0) (quiet number right ranked.1 without.1) ask.side ask.number)
   quiet number (Distinct child) ranked without a = absurd ranked
   quiet number (SetOperator left right) ranked without a = absurd ranked
 
-  module _ (term : ℕ) (child : PlanTree) (ranked : IsRankedScan child) (without : AsksNo query predicate child)
+  module _ (term : ℕ) (child : PlanTree) (ranked : IsRankJoinTree child) (without : AsksNo query predicate child)
       (fits : AnswersFit catalogue query (Rank term child) lesser) (other_fits : AnswersFit catalogue query (Rank term child) greater) where
     are : AreWorlds catalogue lesser greater query 1
     are = are-worlds catalogue lesser greater query (Rank term child) 0 ranked fits other_fits

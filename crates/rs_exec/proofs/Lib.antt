@@ -3,7 +3,9 @@ mod AlikeFacts
 mod AnswerFacts
 mod FeedFacts
 mod BlockFacts
+mod CertifiedFacts
 mod CertifyFacts
+mod CertifyJoinFacts
 mod CoreFacts
 mod CountFacts
 pub mod CoversFacts

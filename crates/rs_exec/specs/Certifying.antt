@@ -16,14 +16,14 @@ use Rattle.rs_plan.specs.Plans.{IsPlan}
 use Rattle.rs_plan.specs.Trees.{Distinct, JoinOperator, Rank, RankScan, SeqScan, SetOperator, PlanTree}
 use Rattle.rs_exec.specs.Indexes.{PlanIndexesHold}
 
--- a scan of a table or of a rank index, or rank operators over one
-abbrev pub IsRankedScan : PlanTree → Type 0
-IsRankedScan (SeqScan entry) = Unit {0}
-IsRankedScan (RankScan entry term index) = Unit {0}
-IsRankedScan (Rank term child) = IsRankedScan child
-IsRankedScan (JoinOperator kind left right) = ⊥
-IsRankedScan (Distinct child) = ⊥
-IsRankedScan (SetOperator left right) = ⊥
+-- a tree of scans, rank operators and joins
+abbrev pub IsRankJoinTree : PlanTree → Type 0
+IsRankJoinTree (SeqScan entry) = Unit {0}
+IsRankJoinTree (RankScan entry term index) = Unit {0}
+IsRankJoinTree (Rank term child) = IsRankJoinTree child
+IsRankJoinTree (JoinOperator kind left right) = IsRankJoinTree left × IsRankJoinTree right
+IsRankJoinTree (Distinct child) = ⊥
+IsRankJoinTree (SetOperator left right) = ⊥
 
 -- a plan is one of a query, and these answers fit it: its indexes hold them, and no term is worth more than its maximum
 pub record AnswersFit (catalogue : CatalogDef) (query : Query) (tree : PlanTree) (answer : Answering) : Type 0 where

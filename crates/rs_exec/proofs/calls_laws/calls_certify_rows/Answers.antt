@@ -1,5 +1,5 @@
 -- The questions of a plan certify its rows, those of each node by those of its input.
-use Rattle.rs_exec.proofs.CertifyFacts.{certified-calls, certified-next, certified-rows}
+use Rattle.rs_exec.proofs.CertifiedFacts.{certified-calls, certified-next, certified-rows}
 use Rattle.rs_exec.proofs.calls_laws.calls_certify_rows.Goals as goal
 
 pub returns-clause-rows : goal.returns-clause-rows
