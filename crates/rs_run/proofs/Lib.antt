@@ -9,6 +9,7 @@ pub mod ScanSteps
 pub mod GeneratedFacts
 pub mod RowFacts
 pub mod TextFacts
+mod NamingFacts
 pub mod OwnRuns
 pub mod OutcomeFacts
 pub mod OneRun
