@@ -22,7 +22,7 @@ use Rattle.rs_plan.specs.Calls.{calls_of_plan, questions, questions_of_ask}
 use Rattle.rs_plan.specs.Lists.{World, key_under, list_of, row_under, sources, weights_in, worths}
 use Rattle.rs_plan.specs.Trees.{Distinct, JoinOperator, Rank, RankScan, SeqScan, SetOperator, PlanTree}
 use Rattle.rs_exec.specs.Asking.{exec_faults, world_of}
-use Rattle.rs_exec.specs.Certifying.{AnswerAlike, AnswersFit, IsRankJoinTree}
+use Rattle.rs_exec.specs.Certifying.{AnswerAlike, AnswersFit, HasNoSetOperator}
 use Rattle.rs_exec.specs.Cursors.{answer_for, answers_of, next_answer}
 use Rattle.rs_exec.specs.declared.fault.ExecFault.{ExecFault}
 use Rattle.rs_exec.specs.Indexes.{PlanIndexesHold}
@@ -45,6 +45,18 @@ use Rattle.rs_exec.proofs.CertifyJoinFacts.{IsNumbered, ask-of, ask_at, asks-the
 use Rattle.rs_exec.proofs.JoinListFacts.{CanJoinParts, join-list, join-sides}
 use Rattle.rs_exec.proofs.JoinStepFacts.{join-schedule}
 use Rattle.rs_exec.proofs.PlacesFacts.{part-of}
+use Rattle.std.proofs.lemmas.List.{length-map}
+use Rattle.rs_order.specs.Schedule.{Left, asks_from}
+use Rattle.rs_order.proofs.ScheduleFacts.{asked-from}
+use Rattle.rs_outputs.specs.Rows.{OutputRow, firsts}
+use Rattle.rs_query.specs.Answers.{base_of}
+use Rattle.rs_plan.specs.Counts.{asked_of}
+use Rattle.rs_exec.specs.OutputValues.{output_row, outputs_in}
+use Rattle.rs_exec.proofs.CertifyDistinctFacts.{alone-numbered, base-unscored, distinct-shared, same-ids}
+use Rattle.rs_exec.proofs.DistinctListFacts.{distinct-outputs, output_key}
+use Rattle.rs_exec.proofs.DistinctStepFacts.{distinct-asks, distinct-child_asks, outputs-climb}
+use Rattle.rs_plan.specs.Trees.{terms}
+use Rattle.rs_plan.specs.Lists.{sizes_in}
 
 module _ (catalogue : CatalogDef) (answer other : Answering) (query : Query) where
   abbrev w : World
@@ -167,6 +179,59 @@ module _ (catalogue : CatalogDef) (answer other : Answering) (query : Query) whe
                 ∙ ap (flat_map (puts_of v number tree)) (both.asks ∙ sym other_is);
           }
 
+    module _ (child : PlanTree) (part : IsPart catalogue (block_in query number) (Distinct child)) (child_below : Certifies catalogue answer other query number child)
+        (same : sources w number child ≡ sources v number child) where
+      abbrev rows : List OutputRow
+      rows = outputs_in w number child
+
+      abbrev others : List OutputRow
+      others = outputs_in v number child
+
+      input : (side : JoinSide) → IsChild number (Distinct child) side
+      input side = record { are = are; part = part-of catalogue query number child part.0 }
+
+      input-below : (side : JoinSide) → Certifies catalogue answer other query (number_on number (Distinct child) side) (child_on (Distinct child) side)
+      input-below side = child_below
+
+      rows-count : length rows ≡ length others
+      rows-count =
+          length-map (list_of w number child) (output_row w)
+          ∙ list-length w number child ∙ ap (λ (all : List Ids). length all) same ∙ sym (list-length v number child)
+          ∙ sym (length-map (list_of v number child) (output_row v))
+
+      rows-in : (all : List RankRow) → map (λ (row : OutputRow). row.row) (map (output_row w) all) ≡ all
+      rows-in [] = refl
+      rows-in (row ∷ rest) = ap (λ (more : List RankRow). row ∷ more) (rows-in rest)
+
+      -- an operator that drops duplicates, of rows that are certified
+      pub distinct-certifies : Certifies catalogue answer other query number (Distinct child)
+      distinct-certifies zero alike = record { rows = refl; asked = refl }
+      distinct-certifies (suc n) alike =
+          let j = asked_of w number (Distinct child) (suc n) Left in
+          let asks = asks_from Left 1 j in
+          let is = distinct-child_asks w number child (suc n) in
+          let other_is = distinct-child_asks v number child (suc n) in
+          let all = subst (λ (made : List SideAsk). AnswerAlike catalogue answer other (flat_map (puts_of w number (Distinct child)) made)) is alike in
+          let count = asked-from Left 1 j in
+          let share = side-shared number (Distinct child) asks (alone-numbered j) input all input-below (λ i. refl) in
+          let j_is = distinct-asks w number child are.formed (are.bounded number are.has) part are.weights n in
+          let k_is = distinct-asks v number child are.formed (are.other_bounded number are.has) part are.weights n in
+          let both = distinct-shared (output_key w (terms child)) rows others (outputs-climb w number child) (outputs-climb v number child) rows-count n (λ i le.
+          take-map (output_row w) i (list_of w number child) ∙ ap (map (output_row w)) (share Left i (omega arith)).rows ∙ sym (take-map (output_row v) i (list_of v number child))) in
+          record {
+            rows =
+                ap (take (suc n)) (sym (rows-in (list_of w number (Distinct child))) ∙ ap (map (λ (row : OutputRow). row.row)) (distinct-outputs w number child are.formed (are.bounded number are.has) part are.weights))
+                ∙ take-map (λ (row : OutputRow). row.row) (suc n) (firsts rows)
+                ∙ ap (map (λ (row : OutputRow). row.row)) both.first
+                ∙ sym (take-map (λ (row : OutputRow). row.row) (suc n) (firsts others))
+                ∙ sym (ap (take (suc n)) (sym (rows-in (list_of v number (Distinct child))) ∙ ap (map (λ (row : OutputRow). row.row)) (distinct-outputs v number child are.formed (are.other_bounded number are.has) part are.weights)));
+            asked =
+                ap (flat_map (puts_of w number (Distinct child))) is
+                ∙ puts-shared number (Distinct child) asks (alone-numbered j) input all input-below (λ i. refl)
+                ∙ ap (λ c. flat_map (puts_of v number (Distinct child)) (asks_from Left 1 c)) (j_is ∙ both.asks ∙ sym k_is)
+                ∙ sym (ap (flat_map (puts_of v number (Distinct child))) other_is);
+          }
+
     -- without an evaluated term a row's sum is 0
     unevaluated : (all : List Ids) → map (row_under w 0) all ≡ map (row_under v 0) all
     unevaluated [] = refl
@@ -175,16 +240,18 @@ module _ (catalogue : CatalogDef) (answer other : Answering) (query : Query) whe
         (ap (λ (sum : ℕ). record { ids = ids; sum = sum }) (sum-none (weights_in w).weight (worths w ids) ∙ sym (sum-none (weights_in v).weight (worths v ids))))
         (unevaluated rest)
 
-    sources-shared : (tree : PlanTree) → IsRankJoinTree tree → sources w number tree ≡ sources v number tree
+    sources-shared : (tree : PlanTree) → HasNoSetOperator tree → sources w number tree ≡ sources v number tree
     sources-shared (SeqScan entry) is = refl
     sources-shared (RankScan entry term index) is = refl
     sources-shared (Rank term child) is = sources-shared child is
     sources-shared (JoinOperator kind left right) is = refl
-    sources-shared (Distinct child) is = absurd is
+    sources-shared (Distinct child) is =
+        same-ids (base_of answer catalogue number (block_in query number) (sizes_in w number)) (base_of other catalogue number (block_in query number) (sizes_in w number))
+        (base-unscored catalogue answer other number (block_in query number) (sizes_in w number))
     sources-shared (SetOperator left right) is = absurd is
 
     -- a scan asks nothing, and rank operators over one certify their rows
-    pub certifies : (tree : PlanTree) → IsRankJoinTree tree → IsPartOf catalogue query number tree → PlanIndexesHold answer catalogue tree → PlanIndexesHold other catalogue tree → Certifies catalogue answer other query number tree
+    pub certifies : (tree : PlanTree) → HasNoSetOperator tree → IsPartOf catalogue query number tree → PlanIndexesHold answer catalogue tree → PlanIndexesHold other catalogue tree → Certifies catalogue answer other query number tree
     certifies (SeqScan entry) is part holds other_holds a alike =
         record { rows = ap (λ (all : List RankRow). take a (sorted key_cmp (key_under w 0) all)) (unevaluated (sources w number (SeqScan entry))); asked = refl }
     certifies (RankScan entry term index) is part holds other_holds a alike =
@@ -200,7 +267,8 @@ module _ (catalogue : CatalogDef) (answer other : Answering) (query : Query) whe
         (certifies left is.0 (part-of catalogue query number left part.0) holds.0 other_holds.0)
         (certifies right is.1 (part-of catalogue query number right part.1) holds.1 other_holds.1)
         (sources-shared left is.0) (sources-shared right is.1) a alike
-    certifies (Distinct child) is part holds other_holds a alike = absurd is
+    certifies (Distinct child) is part holds other_holds a alike =
+        distinct-certifies child part (certifies child is (part-of catalogue query number child part.0) holds other_holds) (sources-shared child is) a alike
     certifies (SetOperator left right) is part holds other_holds a alike = absurd is
 
 module _ (catalogue : CatalogDef) (answer other : Answering) where
@@ -230,7 +298,7 @@ module _ (catalogue : CatalogDef) (answer other : Answering) where
       (through-alike asked alike) (outcome-alike asked value alike)
 
 -- a plan
-module _ (catalogue : CatalogDef) (answer other : Answering) (query : Query) (tree : PlanTree) (n : ℕ) (is : IsRankJoinTree tree)
+module _ (catalogue : CatalogDef) (answer other : Answering) (query : Query) (tree : PlanTree) (n : ℕ) (is : HasNoSetOperator tree)
     (fits : AnswersFit catalogue query tree answer) (other_fits : AnswersFit catalogue query tree other) where
   pub are-worlds : AreWorlds catalogue answer other query 1
   are-worlds = record {

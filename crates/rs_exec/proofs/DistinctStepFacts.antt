@@ -38,12 +38,12 @@ climbs-map cmp key f [] climbs = tt
 climbs-map cmp key f (x ∷ xs) climbs = (each-map (Precedes cmp key (f x)) f xs climbs.0, climbs-map cmp key f xs climbs.1)
 
 -- the row that is first of its values behind this many first ones
-record Reached (rows : List OutputRow) (n : ℕ) : Type 0 where
-  fed : ℕ
-  row : OutputRow
-  there : slice_get rows fed ≡ Some row
-  new : has_list row.values (values_of (take fed rows)) ≡ false
-  count : length (firsts (take fed rows)) ≡ n
+pub record Reached (rows : List OutputRow) (n : ℕ) : Type 0 where
+  pub fed : ℕ
+  pub row : OutputRow
+  pub there : slice_get rows fed ≡ Some row
+  pub new : has_list row.values (values_of (take fed rows)) ≡ false
+  pub count : length (firsts (take fed rows)) ≡ n
 
 reach : (rows : List OutputRow) (n k : ℕ) → k ≤ length rows → n < length (firsts (take k rows)) → Reached rows n
 reach rows n zero within less = absurd (omega arith)
@@ -62,7 +62,7 @@ reach rows n (suc k) within less = at (reach rows n k) (slice_get rows k) refl w
   at before None e = absurd (let past = slice_get-none rows k e in omega arith)
   at before (Some row) e = seen row e before (has_list row.values (values_of (take k rows))) refl
 
-reached : (rows : List OutputRow) (n : ℕ) → n < length (firsts rows) → Reached rows n
+pub reached : (rows : List OutputRow) (n : ℕ) → n < length (firsts rows) → Reached rows n
 reached rows n less =
     let all : length (firsts (take (length rows) rows)) ≡ length (firsts rows) = ap (λ xs. length (firsts xs)) (take_all (length rows) rows (omega arith)) in
     reach rows n (length rows) (omega arith) (omega arith)

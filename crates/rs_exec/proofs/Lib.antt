@@ -4,6 +4,7 @@ mod AnswerFacts
 mod FeedFacts
 mod BlockFacts
 mod CertifiedFacts
+mod CertifyDistinctFacts
 mod CertifyFacts
 mod CertifyJoinFacts
 mod CoreFacts
