@@ -1,5 +1,5 @@
 -- Lists of which none was accessed.
-use Rattle.std.proofs.Common.{ℕ, zero, suc, ◌≡◌, List, [], ◌∷◌, refl}
+use Rattle.std.proofs.Common.{ℕ, zero, suc, ◌≡◌, [], ◌∷◌, refl}
 use Rattle.std.specs.Prelude.{slice_index}
 
 -- each of eight counts is none, and so is one that isn't there

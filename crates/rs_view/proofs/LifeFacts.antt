@@ -1,6 +1,6 @@
 -- Over its life a view makes the calls of one plain evaluation over its last tables, in another order.
 use Rattle.std.proofs.Common.{◌≡◌, ◌∙◌, ◌++◌, Bool, true, false, cond, List, [], ◌∷◌, map, refl, sym, ap, ap₂, subst, append-nil, append_assoc}
-use Rattle.std.specs.Prelude.{ℕ, not, Option, Some, None, Result, Ok, Err, if◌then◌else◌}
+use Rattle.std.specs.Prelude.{ℕ, not, Option, Some, None, Ok, if◌then◌else◌}
 use Rattle.std.specs.List.{AllByRecursion, filter, flat_map}
 use Rattle.std.specs.List.Sorted.{IsPermutation}
 use Rattle.std.proofs.lemmas.List.{map-append}
@@ -11,7 +11,6 @@ use Rattle.rs_order.proofs.ItemFacts.{In-filter-back, In-flat_map, In-flat_map-b
 use Rattle.rs_expr.specs.InOrder.{calls_of}
 use Rattle.rs_expr.specs.Scores.{is_score}
 use Rattle.rs_expr.specs.Scoring.{Answering, call_of}
-use Rattle.rs_expr.specs.declared.scorer.Call.{Call}
 use Rattle.rs_rank.specs.declared.answer.Answer.{Answer}
 use Rattle.rs_catalog.specs.Catalog.{CatalogDef}
 use Rattle.rs_expr.specs.Predicates.{PredicateDef}
@@ -20,7 +19,7 @@ use Rattle.rs_query.specs.Combinations.{all_combinations}
 use Rattle.rs_query.specs.Fresh.{has_new_row}
 use Rattle.rs_query.specs.Growth.{CatalogueGrows}
 use Rattle.rs_query.specs.Meaning.{is_inside}
-use Rattle.rs_query.specs.Questions.{Question, asking, call_for, first_of, is_bad, outcome_for, question_of, request_for, through_first}
+use Rattle.rs_query.specs.Questions.{Question, asking, call_for, first_of, is_bad, outcome_for, question_of, request_for}
 use Rattle.rs_query.specs.Tables.{all_entries, sizes_of}
 use Rattle.rs_query.specs.Views.{all_rows}
 use Rattle.rs_query.specs.WellFormed.{IsBlock, IsQuery, IsTerm}
@@ -35,8 +34,7 @@ use Rattle.rs_query.proofs.GrowthFacts.{IsSizes-all, block-grows}
 use Rattle.rs_query.proofs.KeptCombinations.{combinations-kept}
 use Rattle.rs_query.proofs.LocalFacts.{map-same}
 use Rattle.rs_query.proofs.ThroughFacts.{through-all}
-use Rattle.rs_plain.specs.Plain.{evaluation_of, plain_faults, questions_of, row_questions}
-use Rattle.rs_plain.specs.declared.fault.PlainFault.{PlainFault}
+use Rattle.rs_plain.specs.Plain.{evaluation_of, plain_faults, row_questions}
 use Rattle.rs_view.specs.Fresh.{fresh, fresh_questions, growing, making, whole_view}
 use Rattle.rs_view.specs.Lives.{GrowInTurn, growth_calls, last_from, life_calls}
 use Rattle.rs_view.specs.Views.{IsKeepable}

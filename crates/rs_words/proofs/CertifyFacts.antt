@@ -1,5 +1,5 @@
 -- The certificate of the first pairs of two feeds of tables.
-use Rattle.std.proofs.Common.{ℕ, zero, suc, ◌≡◌, ◌∙◌, ◌+◌, ◌-◌, ◌<◌, ◌≤◌, ◌⊎◌, nat_lt, Bool, true, false, cond, List, [], ◌∷◌, ◌++◌, find, length, min, take, slice_get, Option, Some, None, Result, Ok, Err, refl, sym, ap, subst, inl, inr, arith}
+use Rattle.std.proofs.Common.{ℕ, zero, suc, ◌≡◌, ◌∙◌, ◌+◌, ◌-◌, ◌<◌, ◌≤◌, ◌⊎◌, nat_lt, Bool, true, false, cond, List, [], ◌∷◌, ◌++◌, length, min, take, Option, Some, None, Result, Ok, Err, refl, sym, ap, subst, inl, inr, arith}
 use Rattle.std.proofs.lemmas.Bool.Decides.{nat_tests}
 use Rattle.std.proofs.lemmas.List.{length-take, map-append, take_all}
 use Rattle.rs_value.specs.Results.{◌>>=◌}
@@ -12,7 +12,7 @@ use Rattle.rs_feed.specs.declared.feed_row.FeedRow.{FeedRow}
 use Rattle.rs_table_feed.specs.TableFeeds.{TableFeedState}
 use Rattle.rs_feed_join.specs.declared.fault.JoinFault.{JoinFault}
 use Rattle.rs_feed_join.specs.declared.feed_pair.FeedPair.{FeedPair}
-use Rattle.rs_feed_join.specs.Answers.{HasDrawn, answer_by, asks_of_cuts, is_refused, next_answer}
+use Rattle.rs_feed_join.specs.Answers.{HasDrawn, asks_of_cuts, next_answer}
 use Rattle.rs_feed_join.specs.Cuts.{cut}
 use Rattle.rs_feed_join.specs.Joins.{FeedJoinState}
 use Rattle.rs_feed_join.specs.Pairs.{joined_pairs}
@@ -30,6 +30,7 @@ use Rattle.rs_words.specs.declared.fault.WordFault.TheVariants.{CertTooLong, Mem
 use Rattle.rs_words.specs.Certifying.{bytes_of, bytes_run, cert_after, certified, certified_after, certified_behind, few_rows, joined_bytes, side_after}
 use Rattle.rs_words.specs.Faults.{put_faults}
 use Rattle.rs_words.specs.Joining.{IsDrawnOfTable, IsJoining, fault_of, join_fault}
+use Rattle.rs_words.proofs.DrawingFacts.{answer-pair}
 
 -- what the draws of a side show of its feed is what the join keeps of it
 pub side-drawn : (rows : List FeedRow) (side : FeedSide) (draws : ℕ) → BeginsWith rows side.rows → (side.ended ≡ true → rows ≡ side.rows) → IsCounted side → side.draws ≡ draws → side_after rows draws ≡ cert_side side
@@ -127,12 +128,6 @@ pub at-place : (P : List FeedRow → List FeedRow → ℕ → Type 0) (lefts rig
 at-place P lefts rights lefts' rights' n place l r e is = subst (λ n. P lefts rights n) e (subst (λ xs. P lefts xs n) r (subst (λ xs. P xs rights' n) l is))
 
 -- the pairs by their numbers, and the next one behind them
-answer-pair : (lefts rights : List FeedRow) (n : ℕ) (pair : FeedPair) (ask : Option SideAsk) → answer_by lefts rights n ask ≡ Ok (Some pair) → slice_get (joined_pairs (cut lefts) (cut rights)) n ≡ Some pair
-answer-pair lefts rights n pair None e = same e where
-  same : {x y : Option FeedPair} → ◌≡◌ {A = Result (Option FeedPair) JoinFault} (Ok x) (Ok y) → x ≡ y
-  same e = cc
-answer-pair lefts rights n pair (Some ask) e = absurd (cc e)
-
 pub pairs-next : (lefts rights : List FeedRow) (n : ℕ) (pair : FeedPair) (pairs : List (ℕ × ℕ)) → next_answer lefts rights n ≡ Ok (Some pair) → pairs ≡ numbers_in (take n (joined_pairs (cut lefts) (cut rights)))
     → pairs ++ (pair.left, pair.right) ∷ [] ≡ numbers_in (take (n + 1) (joined_pairs (cut lefts) (cut rights)))
 pairs-next lefts rights n pair pairs answer are =
@@ -140,7 +135,7 @@ pairs-next lefts rights n pair pairs answer are =
     let next : suc n ≡ n + 1 = omega arith in
     ap (λ list. list ++ (pair.left, pair.right) ∷ []) are
     ∙ sym (map-append (λ (p : FeedPair). (p.left, p.right)) (take n all) (pair ∷ []))
-    ∙ ap numbers_in (sym (take-snoc n all pair (answer-pair lefts rights n pair (find (is_refused lefts rights) (asks_of_cuts lefts rights n)) answer)))
+    ∙ ap numbers_in (sym (take-snoc n all pair (answer-pair lefts rights n (Some pair) answer)))
     ∙ ap (λ m. numbers_in (take m all)) next
 
 -- a side that isn't refused is few

@@ -1,5 +1,5 @@
 -- How often two feeds were drawn for the pairs that were put.
-use Rattle.std.proofs.Common.{ℕ, zero, suc, append-nil, true, ◌≡◌, ◌∙◌, ◌+◌, ◌<◌, ◌≤◌, ◌++◌, inr, min, List, [], ◌∷◌, length, map, find, slice_get, Option, Some, None, Result, Ok, Err, sym, ap, subst, arith}
+use Rattle.std.proofs.Common.{ℕ, suc, append-nil, true, ◌≡◌, ◌∙◌, ◌+◌, ◌<◌, ◌≤◌, ◌++◌, inr, min, List, [], ◌∷◌, length, map, find, slice_get, Option, Some, None, Result, Ok, Err, sym, ap, subst, arith}
 use Rattle.std.proofs.lemmas.List.{map-append}
 use Rattle.rs_feed.specs.declared.feed_row.FeedRow.{FeedRow}
 use Rattle.rs_table_feed.specs.TableFeeds.{TableFeedState}
@@ -11,7 +11,9 @@ use Rattle.rs_feed_join.specs.Cuts.{cut}
 use Rattle.rs_feed_join.specs.Joins.{FeedJoinState}
 use Rattle.rs_feed_join.specs.Ranked.{asks_of_rows}
 use Rattle.rs_feed_join.specs.Sides.{FeedSide}
+use Rattle.rs_feed_join.proofs.AnswerFacts.{get-length}
 use Rattle.rs_order.specs.Schedule.{SideAsk}
+use Rattle.rs_ripple.proofs.LawFacts.{slice_get_none}
 use Rattle.rs_events.specs.Environment.{Environment}
 use Rattle.rs_events.specs.Events.{Event, Put}
 use Rattle.rs_events.specs.Run.{lines_run}
@@ -23,17 +25,6 @@ use Rattle.rs_words.specs.Faults.{put_faults}
 use Rattle.rs_words.specs.Feeding.{PutsNext, draws_run}
 use Rattle.rs_words.specs.Joining.{IsJoining, IsOfTables, join_fault}
 use Rattle.rs_words.specs.Lines.{pair_line}
-
--- places in a list
-some-within : {X : Type 0} (xs : List X) (n : ℕ) (x : X) → slice_get xs n ≡ Some x → suc n ≤ length xs
-some-within [] n x e = absurd cc
-some-within (y ∷ xs) zero x e = omega arith
-some-within (y ∷ xs) (suc n) x e = let rest = some-within xs n x e in omega arith
-
-none-beyond : {X : Type 0} (xs : List X) (n : ℕ) → slice_get xs n ≡ None → length xs ≤ n
-none-beyond [] n e = omega arith
-none-beyond (y ∷ xs) zero e = absurd cc
-none-beyond (y ∷ xs) (suc n) e = let rest = none-beyond xs n e in omega arith
 
 module _ (lefts rights : List FeedRow) (n : ℕ) where
   answer-at : (given : Option FeedPair) (ask : Option SideAsk) → answer_by lefts rights n ask ≡ Ok given → slice_get (pairs_of lefts rights) n ≡ given
@@ -47,7 +38,7 @@ module _ (lefts rights : List FeedRow) (n : ℕ) where
 
   -- a pair that was given is one of all
   pub gave-next : (pair : FeedPair) → next_answer lefts rights n ≡ Ok (Some pair) → n + 1 ≤ length (pairs_of lefts rights)
-  gave-next pair answer = let more = some-within (pairs_of lefts rights) n pair (answer-pair (Some pair) answer) in omega arith
+  gave-next pair answer = let more = get-length (pairs_of lefts rights) n pair (answer-pair (Some pair) answer) in omega arith
 
   module _ (count : ℕ) (gave : n ≤ length (pairs_of lefts rights)) where
     -- the draws for as many as were wanted, and the lines
@@ -60,7 +51,7 @@ module _ (lefts rights : List FeedRow) (n : ℕ) where
     -- and those for all that there are, and the end
     module _ (within : n < count) (answer : next_answer lefts rights n ≡ Ok None) where
       over : length (pairs_of lefts rights) ≤ n
-      over = none-beyond (pairs_of lefts rights) n (answer-pair None answer)
+      over = slice_get_none (pairs_of lefts rights) n (answer-pair None answer)
 
       pub asks-end : asks_of_cuts lefts rights n ≡ draws_in_all lefts rights count
       asks-end =

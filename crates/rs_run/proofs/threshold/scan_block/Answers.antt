@@ -1,5 +1,5 @@
 -- A new scan over the indexes of an eligible block stands where no ask has left it.
-use Rattle.std.proofs.Common.{◌≡◌, ◌∙◌, ◌≤◌, ◌++◌, List, ℕ, [], ◌∷◌, refl, sym, ap, subst}
+use Rattle.std.proofs.Common.{◌≡◌, ◌∙◌, ◌≤◌, ◌++◌, List, [], ◌∷◌, refl, sym, ap, subst}
 use Rattle.rs_order.proofs.EachFacts.{each-weaker}
 use Rattle.rs_rank.specs.declared.answer.Answer.{Answer}
 use Rattle.rs_rank.specs.declared.weights.Weights.{Weights}
