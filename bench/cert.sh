@@ -3,7 +3,7 @@
 # There is a key for each hundred rows, and at last one key for all 8,192 rows, with up to 1,000,000 pairs.
 # Beside them, in the same run, sqlite3 reads the same files, joins them and sorts all pairs: that is what an answer costs that nobody
 # can check, and what it costs to make it anew. Where one key has 67 million pairs it is asked once, for the most pairs alone.
-# The certificate has to be the one that checks/feeds.py and checks/certificates.py write, the check has to say yes, and sqlite3 has to
+# The certificate has to be the one that checks/model/feeds.py and checks/model/certificates.py write, the check has to say yes, and sqlite3 has to
 # find the same pairs.
 # The time is processor time, the shortest of five runs, with starting the program and reading the files.
 # The program is the one that ./ranksql builds, or the one that the variable RANKSQL names.
@@ -27,39 +27,21 @@ import subprocess
 import sys
 
 sys.dont_write_bytecode = True
-sys.path.insert(0, "checks")
+sys.path.insert(0, "checks/model")
 import certificates
 import feeds
+from measured import draw, processed
 
 program, folder, runs = sys.argv[1], sys.argv[2], int(sys.argv[3])
 SIZES = [(100, 1), (1_000, 10), (8_192, 81), (8_192, 1)]
 COUNTS = [10, 1_000, 100_000, 1_000_000]
 # Of more pairs sqlite3 sorts long.
 LARGE = 10_000_000
-seed = 20261201
-
-
-def draw(below):
-    """The generator x -> 16807 x modulo 2^31 - 1, so each run makes the same rows."""
-    global seed
-    seed = seed * 16807 % 2147483647
-    return seed * below // 2147483647
 
 
 def feed_of(size, keys):
     scores = sorted((draw(1_000_000) for _ in range(size)), reverse=True)
     return [("key%d" % draw(keys), score) for score in scores]
-
-
-def spent(words, given=os.devnull):
-    """The seconds of processor time of a program, and what it printed."""
-    with open(given) as begun:
-        ended = subprocess.Popen(words, stdin=begun, stdout=subprocess.PIPE, stderr=subprocess.PIPE)
-    printed, told = ended.stdout.read(), ended.stderr.read().decode(errors="replace")
-    _, status, usage = os.wait4(ended.pid, 0)
-    if status != 0 or told:
-        sys.exit("bench: %s ended with %d: %s" % (words[0], status, told))
-    return usage.ru_utime + usage.ru_stime, printed
 
 
 def room(words, given=os.devnull):
@@ -112,15 +94,15 @@ for size, keys in SIZES:
         writing, checking, theirs = [], [], []
         for turn in range(runs):
             if size * size // keys < LARGE or turn == 0 and count == COUNTS[-1]:
-                taken, printed = spent(["sqlite3", "-batch", ":memory:"], query)
+                taken, printed = processed(["sqlite3", "-batch", ":memory:"], query)
                 theirs.append(taken)
                 if [tuple(map(int, row.split(b","))) for row in printed.split()] != [key[1:] for key in pairs]:
                     sys.exit("bench: sqlite3 finds other pairs at K = %d" % count)
-            taken, printed = spent([program, "cert", *names, str(count)])
+            taken, printed = processed([program, "cert", *names, str(count)])
             writing.append(taken)
             if printed != wanted:
                 sys.exit("bench: cert prints another certificate at K = %d" % count)
-            taken, printed = spent([program, "check", cert])
+            taken, printed = processed([program, "check", cert])
             checking.append(taken)
             if printed != b"yes\n":
                 sys.exit("bench: check says %s at K = %d" % (printed, count))

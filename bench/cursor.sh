@@ -13,35 +13,18 @@ RUNS=5
 
 needs python3 'it takes the times'
 find_program
-if [ -n "${COUNT_CALLS:-}" ]; then
-    counter=$COUNT_CALLS
-else
-    (cd "$root/crates/count_calls" && rt run -- none) >"$work/built" 2>&1
-    counter=$root/crates/count_calls/out/count_calls
-    [ -x "$counter" ] || { cat "$work/built" >&2; exit 1; }
-fi
+find_counter
 
 python3 - "$program" "$counter" "$work" "$ROWS" "$RUNS" <<'PYTHON'
-import os
-import subprocess
 import sys
-import time
+
+from measured import calls_of, draw, waited
 
 program, counter, folder, rows, runs = *sys.argv[1:4], int(sys.argv[4]), int(sys.argv[5])
 COUNTS = [0, 1, 64]
 FETCHES, WANTED = [1, 10], 10
 
-# Films with a rating from 0 to 999 and a year from 1950 to 2024. The numbers are those of the generator
-# x -> 16807 x modulo 2^31 - 1, so each run makes the same file.
-seed = 20260101
-
-
-def draw(below):
-    global seed
-    seed = seed * 16807 % 2147483647
-    return seed * below // 2147483647
-
-
+# Films with a rating from 0 to 999 and a year from 1950 to 2024.
 with open(folder + "/films.csv", "w") as file:
     file.write("title,rating,year\n")
     file.writelines("Film number %d,%d,%d\n" % (row, draw(1000), 1950 + draw(75)) for row in range(1, rows + 1))
@@ -64,22 +47,8 @@ CREATE RANK INDEX by_rated ON films (rated(rating));
 
 def spent(words):
     """The seconds of a run, what it printed, and the most memory that it held in kB."""
-    start = time.perf_counter()
-    ended = subprocess.Popen(words, stdout=subprocess.PIPE, stderr=subprocess.PIPE, stdin=subprocess.DEVNULL)
-    printed, told = ended.stdout.read().decode(), ended.stderr.read().decode(errors="replace")
-    _, status, usage = os.wait4(ended.pid, 0)
-    taken = time.perf_counter() - start
-    if status != 0:
-        sys.exit("bench: %s ended with %d: %s" % (words[0], status, told))
-    return taken, printed, usage.ru_maxrss
-
-
-def calls_of(words):
-    ended = subprocess.run([counter, *words], stdout=subprocess.DEVNULL, stderr=subprocess.PIPE, stdin=subprocess.DEVNULL)
-    told = ended.stderr.decode().split()
-    if ended.returncode != 0 or told[:-1] != ["calls"]:
-        sys.exit("bench: count_calls ended with %d: %s" % (ended.returncode, ended.stderr.decode(errors="replace")))
-    return int(told[-1])
+    taken, printed, usage = waited(words)
+    return taken, printed.decode(), usage.ru_maxrss
 
 
 cases = [(cursors, fetches) for fetches in FETCHES for cursors in COUNTS]
@@ -97,7 +66,7 @@ for fetches in FETCHES:
         sys.exit("bench: 64 cursors print other rows than one alone")
     for cursors in COUNTS:
         case = cursors, fetches
-        calls = calls_of(["run", scripts[case], "1"]) - calls_of(["run", scripts[0, fetches], "1"])
+        calls = calls_of(counter, ["run", scripts[case], "1"]) - calls_of(counter, ["run", scripts[0, fetches], "1"])
         print("%2d cursors, %2d times FETCH %d each: %6d calls, their samples included; %6.1f ms and %6d kB more than without"
               % (cursors, fetches, WANTED, calls, (best[case] - best[0, fetches]) * 1000, memory[case] - memory[0, fetches]))
 PYTHON

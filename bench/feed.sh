@@ -2,7 +2,7 @@
 # Measures `ranksql feed` on two ranked feeds of 1,000, 8,192 and 131,072 rows, for the first 1, 10, 100 and 1,000 pairs. Beside it,
 # in the same run, sqlite3 reads the same files, joins them and sorts all pairs. There is a key for each hundred rows, so with the most
 # rows there are 13 million pairs.
-# The pairs have to be the same, and the draws those that the definition of the join says: checks/feeds.py reckons them over the
+# The pairs have to be the same, and the draws those that the definition of the join says: checks/model/feeds.py reckons them over the
 # finished lists.
 # The time is processor time, the shortest of five runs. Starting the program and reading both files are part of it on both sides; the
 # time of ours with K = 0, which does no more than that, is told beside it.
@@ -22,44 +22,24 @@ import collections
 import csv
 import heapq
 import itertools
-import os
-import subprocess
 import sys
 
 sys.dont_write_bytecode = True
-sys.path.insert(0, "checks")
+sys.path.insert(0, "checks/model")
 import feeds
+from measured import draw, processed
 
 program, folder, runs = sys.argv[1], sys.argv[2], int(sys.argv[3])
 SIZES = [1_000, 8_192, 131_072]
 COUNTS = [1, 10, 100, 1_000]
 # Joining and sorting all pairs of the greatest feeds takes sqlite3 long, so that is done once.
 LARGE = 100_000
-seed = 20261130
-
-
-def draw(below):
-    """The generator x -> 16807 x modulo 2^31 - 1, so each run makes the same rows."""
-    global seed
-    seed = seed * 16807 % 2147483647
-    return seed * below // 2147483647
 
 
 def feed_of(size):
     keys = max(1, size // 100)
     scores = sorted((draw(1_000_000) for _ in range(size)), reverse=True)
     return [("key%d" % draw(keys), score) for score in scores]
-
-
-def spent(words, given=None):
-    """The seconds of processor time of a program, and what it printed."""
-    with open(os.devnull if given is None else given) as begun:
-        ended = subprocess.Popen(words, stdin=begun, stdout=subprocess.PIPE, stderr=subprocess.PIPE)
-    printed, told = ended.stdout.read().decode(), ended.stderr.read().decode(errors="replace")
-    _, status, usage = os.wait4(ended.pid, 0)
-    if status != 0 or told:
-        sys.exit("bench: %s ended with %d: %s" % (words[0], status, told))
-    return usage.ru_utime + usage.ru_stime, printed
 
 
 def best_pairs(lefts, rights, count):
@@ -92,15 +72,15 @@ for size in SIZES:
             file.write("SELECT l.score + r.score AS sum, l.key, l.score, r.score FROM l, r WHERE l.key = r.key ORDER BY sum DESC, l.rowid, r.rowid LIMIT %d;\n" % count)
         ours, idle, theirs = [], [], []
         for turn in range(runs):
-            taken, printed = spent([program, "feed", *names, str(count)])
+            taken, printed = processed([program, "feed", *names, str(count)])
             ours.append(taken)
-            if printed.splitlines() != [*wanted, "left=%d right=%d" % draws]:
+            if printed.decode().splitlines() != [*wanted, "left=%d right=%d" % draws]:
                 sys.exit("bench: ranksql prints other pairs or draws at K = %d" % count)
-            idle.append(spent([program, "feed", *names, "0"])[0])
+            idle.append(processed([program, "feed", *names, "0"])[0])
             if turn == 0 or size < LARGE:
-                taken, printed = spent(["sqlite3", "-batch", ":memory:"], query)
+                taken, printed = processed(["sqlite3", "-batch", ":memory:"], query)
                 theirs.append(taken)
-                if ["%d,%s" % (rank, ",".join(row)) for rank, row in enumerate(csv.reader(printed.splitlines()), 1)] != wanted:
+                if ["%d,%s" % (rank, ",".join(row)) for rank, row in enumerate(csv.reader(printed.decode().splitlines()), 1)] != wanted:
                     sys.exit("bench: sqlite3 prints other pairs at K = %d" % count)
         mine, least, peer = min(ours), min(idle), min(theirs)
         print("  K = %4d: %6d and %6d draws; %8.2f ms, %8.2f ms of them with K = 0; sqlite3 %9.2f ms; ratio %.4f"

@@ -8,6 +8,8 @@ set -u -o pipefail
 export LC_ALL=C
 
 root=$(cd "$(dirname "${BASH_SOURCE[0]}")/.." && pwd -P)
+# What is written in Python takes what it shares from measured.py.
+export PYTHONPATH="$root/bench" PYTHONDONTWRITEBYTECODE=1
 work=$(mktemp -d) || exit 1
 trap 'rm -rf "$work"' EXIT
 
@@ -26,6 +28,14 @@ find_program() {
     fi
     "$root/ranksql" top "$root/examples/hotels.csv" price 400 0 || exit
     program=$root/crates/ranksql/out/ranksql
+}
+
+# Sets `counter` to the program count_calls: the one that the variable COUNT_CALLS names, or else the one that `rt run` builds.
+find_counter() {
+    counter=${COUNT_CALLS:-$root/crates/count_calls/out/count_calls}
+    [ -n "${COUNT_CALLS:-}" ] && return
+    (cd "$root/crates/count_calls" && rt run -- none) >"$work/built" 2>&1
+    [ -x "$counter" ] || { cat "$work/built" >&2; exit 1; }
 }
 
 # Calls the function run_NAME on the words behind NAME, adds its time in microseconds to the file NAME.times, and keeps

@@ -25,23 +25,15 @@ import subprocess
 import sys
 import time
 
+from measured import draw
+
 program, folder, runs = sys.argv[1], sys.argv[2], int(sys.argv[3])
 TABLES = [10_000, 100_000]
 INSERTS = [(990, 1), (990, 10), (120, 100)]
 INDEXES = [0, 1, 2]
 LIMIT = 10
 
-# Ratings from 0 to 999,999 and years from 1900 to 2024. The numbers are those of the generator x -> 16807 x modulo 2^31 - 1, so each
-# run makes the same rows.
-seed = 20260101
-
-
-def draw(below):
-    global seed
-    seed = seed * 16807 % 2147483647
-    return seed * below // 2147483647
-
-
+# Ratings from 0 to 999,999 and years from 1900 to 2024.
 def film(row):
     return "Film number %d" % row, draw(1_000_000), 1900 + draw(125)
 

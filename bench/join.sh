@@ -4,7 +4,7 @@
 # where they were joined, with predicates whose MAX is ten times as great as their scores. Beside them, in the same run, sqlite3
 # joins and sorts all. The plans are given to the program cases_plans, which is told the tables and the query line by line. It
 # and sqlite3 have to print the same rows. How often a plan calls the scorer and how many rows it draws has to be what the
-# definitions say, which checks/executor.py reckons over finished lists. Of the last plans it also reckons what they would do
+# definitions say, which checks/model/queries.py reckons over finished lists. Of the last plans it also reckons what they would do
 # if MAX bounded a term in the place of the first score of its index.
 # Each query runs five times, in turn, more often where it takes less than 50 ms, and once where it takes more than a second;
 # the shortest time counts. The time of a plan is what the rows that are asked for add to the time of the same line with none.
@@ -38,8 +38,10 @@ import sys
 import time
 
 sys.dont_write_bytecode = True
-sys.path.insert(0, "checks")
-from executor import Plan, Predicate, Query, Table, Term, join, rank
+sys.path[:0] = ["checks/model", "checks/cases"]
+from executor import counts
+from front import Front
+from queries import HashJoin, IndexScan, NestedJoin, Rank, Scan
 
 program, folder = sys.argv[1:]
 NUMBER = 7
@@ -66,22 +68,25 @@ def rows_of(size):
     return [hotels, restaurants, museums]
 
 
-class Visit(Query):
-    """The query of these tables. What it says of lists, asks and counts is that of checks/executor.py; the rows of a list are
-    found city by city, since the whole product would be too large."""
+class Visit:
+    """The query of these tables. What its plans ask and count is that of checks/model/queries.py; its combinations are found city by
+    city, since the whole product would be too large."""
 
     def __init__(self, rows, times):
-        cheap = Predicate("cheap", 300 * times, "340 - v", lambda v: 340 - v)
-        tasty = Predicate("tasty", 100 * times, "v", lambda v: v)
-        famous = Predicate("famous", 200 * times, "v", lambda v: v)
-        terms = [Term(1, cheap, [(1, "v")]), Term(3, tasty, [(2, "v")]), Term(2, famous, [(3, "v")])]
-        super().__init__([Table(name, "ncv", of_table) for name, of_table in zip(TABLES, rows)], [], terms[: len(rows)], None)
-        self.bind([(cheap, self.tables[0], "v"), (tasty, self.tables[1], "v")])
+        self.tables = rows
+        select = "SELECT %s %s ORDER BY %s" % (", ".join(NAMES[: len(rows)]), self.source(), " + ".join(TERMS[: len(rows)]))
+        self.query = Front(script_of(rows, times)).query(select)
+        self.query.combinations = self.combinations
+        self.by_city = [collections.defaultdict(list) for _ in rows]
+        for table, found in zip(rows, self.by_city):
+            for number, (_, city, _) in enumerate(table, 1):
+                found[city].append(number)
 
     def by_greatest_scores(self):
         """The same, where each term is bounded by MAX."""
         other = copy.copy(self)
-        other.tops = [term.predicate.most for term in self.terms]
+        other.query = copy.copy(self.query)
+        other.query.tops = [other.query.most(term) for term in other.query.every]
         return other
 
     def source(self):
@@ -91,46 +96,63 @@ class Visit(Query):
 
     def combinations(self, entries):
         """The rows of some entries that are in one city."""
-        by_city = [collections.defaultdict(list) for _ in self.tables]
-        for table, found in zip(self.tables, by_city):
-            for number, (_, city, _) in enumerate(table.rows, 1):
-                found[city].append(number)
-        cities = set().union(*by_city)
-        for city in cities:
-            yield from itertools.product(*(found[city] if entry in entries else [0] for entry, found in enumerate(by_city, 1)))
-
-    # A list depends on the entries and the terms of a plan alone.
-    @functools.cache
-    def listed(self, entries, terms):
-        return sorted(self.combinations(entries), key=lambda row: self.key(terms, row))
-
-    def rows(self, plan):
-        return self.listed(frozenset(plan.entries), frozenset(plan.terms))
+        for city in set().union(*self.by_city):
+            yield from itertools.product(*(found[city] if entry in entries else [0] for entry, found in enumerate(self.by_city)))
 
     def city(self, row):
-        return next(table.rows[number - 1][1] for table, number in zip(self.tables, row) if number)
+        return next(table[number - 1][1] for table, number in zip(self.tables, row) if number)
+
+    def counts(self, word, asks):
+        return counts(self.plan(word), asks)
+
+    @functools.cache
+    def plan(self, word):
+        """The plan of a word of cases_plans."""
+        return planned(self.query, word)[0]
 
     def pairs(self, plan, asks):
         """How many pairs of drawn rows the joins of a plan have, and how many of them match."""
-        asked = collections.Counter(self.asks_below(plan, asks))
         tested = found = 0
-        for child in plan.below:
-            pairs = self.pairs(child, asked[child])
+        for child, asked in zip(plan.children, plan.asked_below(asks)):
+            pairs = self.pairs(child, asked)
             tested, found = tested + pairs[0], found + pairs[1]
-        if len(plan.below) == 2:
-            drawn = [self.rows(child)[: asked[child]] for child in plan.below]
+        if len(plan.children) == 2:
+            drawn = [child.rows[:asked] for child, asked in zip(plan.children, plan.asked_below(asks))]
             cities = [collections.Counter(map(self.city, rows)) for rows in drawn]
             tested += len(drawn[0]) * len(drawn[1])
             found += sum(count * cities[1][city] for city, count in cities[0].items())
         return tested, found
 
 
+def planned(query, word):
+    """The plan that a word begins with, and the rest of the word."""
+    if word[0] == "S":
+        return Scan(query, int(word[1]) - 1), word[2:]
+    if word[0] == "I":
+        entry, term = int(word[1]) - 1, int(word[3]) - 1
+        return IndexScan(query, entry, term), word[6:]
+    if word[0] == "R":
+        below, rest = planned(query, word[3:])
+        return Rank(query, int(word[1]) - 1, below), rest[1:]
+    left, rest = planned(query, word[2:])
+    right, rest = planned(query, rest[1:])
+    return (HashJoin if word[0] == "H" else NestedJoin)(query, left, right), rest[1:]
+
+
+def rank(term, below):
+    return "R%d(%s)" % (term, below)
+
+
+def join(kind, left, right):
+    return "%s(%s,%s)" % (kind, left, right)
+
+
 def scan(entry):
-    return Plan("S%d" % entry, {entry}, set())
+    return "S%d" % entry
 
 
 def index_scan(entry):
-    return Plan("I%d:%d:%d" % (entry, entry, entry - 1), {entry}, {entry}, entry)
+    return "I%d:%d:%d" % (entry, entry, entry - 1)
 
 
 # Hotels and restaurants come from their indexes, and museums are scored as they are drawn, or where they were joined.
@@ -211,7 +233,7 @@ def start_program(rows, times):
 def ask(ours, query, plan, count, limit):
     tables = len(query.tables)
     select = "SELECT %s %s ORDER BY %s LIMIT %d" % (", ".join(NAMES[:tables]), query.source(), " + ".join(TERMS[:tables]), limit)
-    return ours.tell("ask %s %d %s" % (plan.word, count, select), "  counts ")
+    return ours.tell("ask %s %d %s" % (plan, count, select), "  counts ")
 
 
 def start_sqlite(rows):
@@ -258,8 +280,8 @@ def calls_and_draws(counts):
 
 def report(query, name, plan, limit, counts, taken, peer, peak):
     calls, drawn = calls_and_draws(counts)
-    tested, found = query.pairs(plan, limit)
-    work, pairs = (drawn + found, "%7d found " % found) if "H" in plan.word else (tested, "%7d tested" % tested)
+    tested, found = query.pairs(query.plan(plan), limit)
+    work, pairs = (drawn + found, "%7d found " % found) if "H" in plan else (tested, "%7d tested" % tested)
     time_of_it = "%8.2f ms, %7.3f of sqlite3, %6.3f us for each" % (taken * 1000, taken / peer, taken * 1e6 / work)
     if taken < LEAST:
         time_of_it = "less than %.1f ms" % (LEAST * 1000)
@@ -268,7 +290,7 @@ def report(query, name, plan, limit, counts, taken, peer, peak):
 
 def measure(rows, plans, limits, times=1):
     query = Visit(rows, times)
-    print("%d tables of %d rows, and %d combinations" % (len(rows), len(rows[0]), len(query.rows(next(iter(plans.values()))))))
+    print("%d tables of %d rows, and %d combinations" % (len(rows), len(rows[0]), len(query.plan(next(iter(plans.values()))).rows)))
     theirs = start_sqlite(rows)
     ours = {name: start_program(rows, times) for name in plans}
     for limit in limits:

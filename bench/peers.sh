@@ -17,13 +17,7 @@ RUNS=15
 needs sqlite3 'nothing is measured without it (on Debian: apt-get install sqlite3)'
 needs python3 'it takes the times'
 find_program
-if [ -n "${COUNT_CALLS:-}" ]; then
-    counter=$COUNT_CALLS
-else
-    (cd "$root/crates/count_calls" && rt run -- none) >"$work/built" 2>&1
-    counter=$root/crates/count_calls/out/count_calls
-    [ -x "$counter" ] || { cat "$work/built" >&2; exit 1; }
-fi
+find_counter
 
 # Starts a server of PostgreSQL of its own, over a socket in the folder of this script, where it is installed.
 server=''
@@ -57,11 +51,10 @@ start_server
 [ -n "$server" ] || echo 'without PostgreSQL: its server or its command is not there'
 
 python3 - "$program" "$counter" "$work" "$RUNS" "${server:+$work/server}" "$([ "$(id -u)" -eq 0 ] && echo postgres || id -un)" <<'PYTHON'
-import os
 import statistics
-import subprocess
 import sys
-import time
+
+from measured import calls_of, waited
 
 program, counter, folder, runs, socket, user = *sys.argv[1:4], int(sys.argv[4]), *sys.argv[5:7]
 NUMBER, LIMIT = 7, 10
@@ -129,22 +122,8 @@ def postgres_words():
 
 def spent(words):
     """The seconds of a run, what it printed, and the most memory that it held in MB."""
-    start = time.perf_counter()
-    ended = subprocess.Popen(words, stdout=subprocess.PIPE, stderr=subprocess.PIPE, stdin=subprocess.DEVNULL)
-    printed, told = ended.stdout.read().decode(), ended.stderr.read().decode(errors="replace")
-    _, status, usage = os.wait4(ended.pid, 0)
-    taken = time.perf_counter() - start
-    if status != 0:
-        sys.exit("bench: %s ended with %d: %s" % (words[0], status, told))
-    return taken, printed, usage.ru_maxrss * 1024 / 1000000
-
-
-def calls_of(words):
-    ended = subprocess.run([counter, *words], stdout=subprocess.DEVNULL, stderr=subprocess.PIPE, stdin=subprocess.DEVNULL)
-    told = ended.stderr.decode().split()
-    if ended.returncode != 0 or told[:-1] != ["calls"]:
-        sys.exit("bench: count_calls ended with %d: %s" % (ended.returncode, ended.stderr.decode(errors="replace")))
-    return int(told[-1])
+    taken, printed, usage = waited(words)
+    return taken, printed.decode(), usage.ru_maxrss * 1024 / 1000000
 
 
 for size in [600, 2000]:
@@ -180,12 +159,12 @@ for size in [600, 2000]:
 
     # what sqlite3 takes for the query alone
     times["the query"] = [whole - reading for whole, reading in zip(times["sqlite3"], times["its reading"])]
-    calls, all_calls = calls_of(["run", folder + "/peers.sql", "1"]), 3 * combinations(rows)
+    calls, all_calls = calls_of(counter, ["run", folder + "/peers.sql", "1"]), 3 * combinations(rows)
     print("three tables of %d rows: all print the same rows" % size)
     print("  calls: run %d, where the others evaluate %d scores: %.1f times as many" % (calls, all_calls, all_calls / calls))
     print("  time of the whole: " + ", ".join("%s %.1f ms" % (side, statistics.median(times[side]) * 1000) for side in sides)
           + "; run takes " + ", ".join("%.2f of %s" % (ratio("run", peer), peer) for peer in peers))
     print("  `gen %d %d` takes %.2f of sqlite3, and %.2f of what sqlite3 takes for the query alone; %d calls" % (
-        NUMBER, size, ratio("gen", "sqlite3"), ratio("gen", "the query"), calls_of(generated)))
+        NUMBER, size, ratio("gen", "sqlite3"), ratio("gen", "the query"), calls_of(counter, generated)))
     print("  memory: " + ", ".join("%s %.1f MB" % (side, memory[side]) for side in sides if side in ("run", "sqlite3")))
 PYTHON

@@ -19,20 +19,14 @@ RUNS=5
 needs sqlite3 'nothing is measured without it (on Debian: apt-get install sqlite3)'
 needs python3 'it takes the times'
 find_program
-if [ -n "${COUNT_CALLS:-}" ]; then
-    counter=$COUNT_CALLS
-else
-    (cd "$root/crates/count_calls" && rt run -- none) >"$work/built" 2>&1
-    counter=$root/crates/count_calls/out/count_calls
-    [ -x "$counter" ] || { cat "$work/built" >&2; exit 1; }
-fi
+find_counter
 
 cd "$root" || exit
 python3 - "$program" "$counter" "$work" "$ROWS" "$RUNS" <<'PYTHON'
 import itertools
-import subprocess
 import sys
-import time
+
+from measured import calls_of, draw, spent
 
 program, counter, folder, rows, runs = *sys.argv[1:4], int(sys.argv[4]), int(sys.argv[5])
 LIMITS = [1, 10, 100, 1000]
@@ -43,21 +37,11 @@ MOST_RATED, MOST_RECENT = 999, 75
 # The same far above the scores, of which the greatest is that of 2024.
 FAR_RECENT, TOP_RECENT = 750, 74
 
-# Films with a rating from 0 to 999 and a year from 1950 to 2024. The numbers are those of the generator
-# x -> 16807 x modulo 2^31 - 1, so each run makes the same file.
-seed = 20260101
-
-
-def draw(below):
-    global seed
-    seed = seed * 16807 % 2147483647
-    return seed * below // 2147483647
-
-
 def script_of(limit, most):
     return "%s/%d_%d.sql" % (folder, limit, most)
 
 
+# Films with a rating from 0 to 999 and a year from 1950 to 2024.
 films = [(draw(1000), 1950 + draw(75)) for _ in range(rows)]
 with open(folder + "/films.csv", "w") as file:
     file.write("title,rating,year\n")
@@ -90,25 +74,6 @@ def words_of(side, limit, most=MOST_RECENT):
             query if limit != NO_QUERY else ""]
 
 
-# The time of a run in seconds, and what it printed.
-def spent(words):
-    start = time.perf_counter()
-    ended = subprocess.run(words, stdout=subprocess.PIPE, stderr=subprocess.PIPE, stdin=subprocess.DEVNULL)
-    taken = time.perf_counter() - start
-    if ended.returncode != 0:
-        sys.exit("bench: %s ended with %d: %s" % (" ".join(words), ended.returncode, ended.stderr.decode(errors="replace")))
-    return taken, ended.stdout.decode()
-
-
-# How many calls of the scorer a script makes.
-def calls_of(words):
-    ended = subprocess.run([counter, *words], stdout=subprocess.DEVNULL, stderr=subprocess.PIPE, stdin=subprocess.DEVNULL)
-    told = ended.stderr.decode().split()
-    if ended.returncode != 0 or told[:-1] != ["calls"]:
-        sys.exit("bench: count_calls %s ended with %d: %s" % (" ".join(words), ended.returncode, ended.stderr.decode(errors="replace")))
-    return int(told[-1])
-
-
 # The calls that the definition has for the first rows of `run`.
 scores = sorted((-2 * rating - (year - 1950), row) for row, (rating, year) in enumerate(films, 1))
 
@@ -139,11 +104,11 @@ with open("examples/films/best.sql") as file:
     text = file.read()
 with open(folder + "/before.sql", "w") as file:
     file.write(text[:text.index("SELECT")])
-before = calls_of(["plain", folder + "/before.sql"])
-run, plain = (calls_of([*words]) - before for words in [("run", "examples/films/best.sql", "1"), ("plain", "examples/films/best.sql")])
+before = calls_of(counter, ["plain", folder + "/before.sql"])
+run, plain = (calls_of(counter, [*words]) - before for words in [("run", "examples/films/best.sql", "1"), ("plain", "examples/films/best.sql")])
 print("examples/films: calls of run %d, of plain %d" % (run, plain))
 for limit in LIMITS:
-    run, plain = (calls_of(words_of(word, limit)[1:]) - calls_of(words_of(word, NO_QUERY)[1:]) for word in ["run", "plain"])
+    run, plain = (calls_of(counter, words_of(word, limit)[1:]) - calls_of(counter, words_of(word, NO_QUERY)[1:]) for word in ["run", "plain"])
     if (run, plain) != (calls_needed(limit, MOST_RECENT), 2 * rows):
         sys.exit("bench: %d and %d calls at LIMIT %d, where the definitions have %d and %d" % (run, plain, limit, calls_needed(limit, MOST_RECENT), 2 * rows))
     query = {side: best[side, limit] - best[side, NO_QUERY] for side in sides}
@@ -154,7 +119,7 @@ for limit in LIMITS:
     words = words_of("run", limit, FAR_RECENT)
     if spent(words)[1] != printed["run", limit]:
         sys.exit("bench: other rows at LIMIT %d" % limit)
-    run = calls_of(words[1:]) - calls_of(words_of("run", NO_QUERY, FAR_RECENT)[1:])
+    run = calls_of(counter, words[1:]) - calls_of(counter, words_of("run", NO_QUERY, FAR_RECENT)[1:])
     if run != calls_needed(limit, TOP_RECENT):
         sys.exit("bench: %d calls at LIMIT %d, where the definitions have %d" % (run, limit, calls_needed(limit, TOP_RECENT)))
     print("LIMIT %4d: calls of run %6d; bounded by MAX %6d" % (limit, run, calls_needed(limit, FAR_RECENT)))

@@ -15,19 +15,13 @@ RUNS=5
 needs sqlite3 'nothing is measured without it (on Debian: apt-get install sqlite3)'
 needs python3 'it takes the times'
 find_program
-if [ -n "${COUNT_CALLS:-}" ]; then
-    counter=$COUNT_CALLS
-else
-    (cd "$root/crates/count_calls" && rt run -- none) >"$work/built" 2>&1
-    counter=$root/crates/count_calls/out/count_calls
-    [ -x "$counter" ] || { cat "$work/built" >&2; exit 1; }
-fi
+find_counter
 
 python3 - "$program" "$counter" "$work" "$ROWS" "$RUNS" <<'PYTHON'
 import re
-import subprocess
 import sys
-import time
+
+from measured import calls_of, draw, spent
 
 program, counter, folder, rows, runs = *sys.argv[1:4], int(sys.argv[4]), int(sys.argv[5])
 LIMIT = 10
@@ -36,17 +30,8 @@ SAMPLED = 2 * 256
 MOST = 999999
 OPERATORS = {"UNION": "Union", "UNION ALL": "UnionAll", "INTERSECT": "Intersect", "EXCEPT": "Except"}
 
-# Two guides, each with a number and a year of every film in it. The numbers are those of the generator
-# x -> 16807 x modulo 2^31 - 1, so each run makes the same files. Every third film of the second guide is one of the first.
-seed = 20260101
-
-
-def draw(below):
-    global seed
-    seed = seed * 16807 % 2147483647
-    return seed * below // 2147483647
-
-
+# Two guides, each with a number and a year of every film in it.
+# Every third film of the second guide is one of the first.
 def films(count):
     return list(dict.fromkeys((draw(MOST + 1), 1950 + draw(75)) for _ in range(2 * count)))[:count]
 
@@ -86,23 +71,6 @@ def words_of(side, operator):
 
 
 # The time of a run in seconds, and what it printed.
-def spent(words):
-    start = time.perf_counter()
-    ended = subprocess.run(words, stdout=subprocess.PIPE, stderr=subprocess.PIPE, stdin=subprocess.DEVNULL)
-    taken = time.perf_counter() - start
-    if ended.returncode != 0:
-        sys.exit("bench: %s ended with %d: %s" % (words[0], ended.returncode, ended.stderr.decode(errors="replace")))
-    return taken, ended.stdout.decode()
-
-
-def calls_of(words):
-    ended = subprocess.run([counter, *words], stdout=subprocess.DEVNULL, stderr=subprocess.PIPE, stdin=subprocess.DEVNULL)
-    told = ended.stderr.decode().split()
-    if ended.returncode != 0 or told[:-1] != ["calls"]:
-        sys.exit("bench: count_calls ended with %d: %s" % (ended.returncode, ended.stderr.decode(errors="replace")))
-    return int(told[-1])
-
-
 # The lists of both sides: the key of a row is its bound, its block and its number.
 lists = [sorted((-film[0], block, row, film) for row, film in enumerate(table, 1)) for block, table in ((1, first), (2, second))]
 
@@ -142,7 +110,7 @@ for operator, name in OPERATORS.items():
     told = spent([program, "run", "%s/explain%s.sql" % (folder, name), "1"])[1]
     drawn = [int(count) for count in re.findall(r"RankScan .* drawn=(\d+)", told)]
     needed = draws_needed(operator, answers(operator)[LIMIT - 1])
-    calls = calls_of(words_of("run", operator)[1:]) - calls_of(words_of("run", None)[1:])
+    calls = calls_of(counter, words_of("run", operator)[1:]) - calls_of(counter, words_of("run", None)[1:])
     if drawn != needed or calls != SAMPLED:
         sys.exit("bench: %s drew %s with %d calls, where the definitions have %s and %d:\n%s" % (operator, drawn, calls, needed, SAMPLED, told))
     query = {side: best[side, operator] - best[side, None] for side in sides}

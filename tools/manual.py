@@ -1,9 +1,11 @@
 #!/usr/bin/env python3
-"""Makes the manual page ranksql(1) from docs/FORMATS.md, docs/GRAMMAR.md and the examples, so that it says what they say.
+"""Makes the manual page ranksql(1) from docs/FORMATS.md, docs/GRAMMAR.md and the examples, and ranksql_ask(1) from docs/ASKED.md, so
+that they say what these say.
 
 usage: tools/manual.py >docs/ranksql.1
+       tools/manual.py ask >docs/ranksql_ask.1
 
-checks/documents.py compares the page in docs with what this makes."""
+checks/gate/documents.py compares the pages in docs with what this makes."""
 
 import os
 import re
@@ -97,17 +99,19 @@ def statuses():
             made += [".TP", escaped(f"**{status}**")]
         else:
             made += [".br"]
-        line = re.sub(r" ?` and a text of the \w+ table", " TEXT`, with one of the texts below", line)
+        line = re.sub(r" ?` and a text .*", " TEXT`, with one of the texts below", line)
         made.append(escaped((f"{line}: " if line != "(none)" else "") + comes.rstrip(".")) + ".")
     return made
 
 
 def texts():
     """The texts of the fault lines of tables and of scripts."""
-    lines = section("docs/FORMATS.md", "Statuses and fault lines")
+    tables = section("docs/FORMATS.md", "Statuses and fault lines")
+    scripts = section("docs/GRAMMAR.md", "How a wrong script is told")
     return [
-        ".SS Texts of a table's fault", *entries(table(lines, "text")),
-        ".SS Texts of a script's fault", "The number is the place of a byte in the script, counted from 0.", *entries(table(lines, "text of a script")),
+        ".SS Texts of a table's fault", *entries(table(tables, "text")),
+        ".SS Lines of a script's fault", "N is the place of a byte in the script, counted from 0.", *entries(table(scripts, "line")),
+        ".PP", "VARIANT is one of these.", *entries(table(scripts, "variant")),
     ]
 
 
@@ -155,10 +159,10 @@ def page():
         ".SH DESCRIPTION",
         "Ranks the best few combinations of rows of several tables by a weighted sum of scores. A script makes tables from CSV files,",
         "predicates that give scores, and indexes by score, and asks queries. \\fBplain\\fR scores every combination and then prints.",
-        "\\fBrun\\fR chooses a plan by a sample, prints each row before it looks for the next one, and calls predicates only as far as the",
-        "order of the rows needs. Both print the same rows in the same order.",
+        "\\fBrun\\fR chooses a plan by a sample, prints each row before it looks for the next one, and calls predicates as the",
+        "plan needs them. Both print the same rows in the same order.",
         "\\fBta\\fR answers queries over one table by threshold scans of its rank indexes, and says how many accesses each scan made.",
-        "\\fBfeed\\fR joins two files that are ranked already, and draws no row of either that its pairs don't need.",
+        "\\fBfeed\\fR joins two files that are ranked already, and draws exactly the rows that the thresholds of its join ask for.",
         "\\fBcert\\fR prints the rows that it drew with the answer, and \\fBcheck\\fR says whether they prove it.",
         "\\fBview\\fR keeps the first rows of its queries up to date while rows join their tables, and calls predicates for new combinations alone.",
         ".SH WORDS",
@@ -182,12 +186,81 @@ def page():
     return "\n".join(made) + "\n"
 
 
+ASKED = "docs/ASKED.md"
+
+
+def paragraphs(lines):
+    """The paragraphs of a section, without its tables and lists, each as one line."""
+    found = [" ".join(block.split()) for block in "\n".join(lines).split("\n\n") if block.strip() and block[:1] not in "|-"]
+    return [line for text in found for line in (".PP", escaped(text))]
+
+
+def prose(heading):
+    """A section as it stands: paragraphs, and indented blocks as examples."""
+    made, text = [], []
+    for line in [*section(ASKED, heading), ""]:
+        if line.startswith("    "):
+            text.append(line)
+            continue
+        if text and text[-1].startswith("    "):
+            made += example([part[4:] for part in text])
+            text = []
+        if line:
+            text.append(line)
+        elif text:
+            made += paragraphs(text)
+            text = []
+    return made
+
+
+def asked_statuses():
+    """Each status beside those of ranksql, with its line."""
+    made = []
+    for status, comes in table(section(ASKED, "Statuses"), "status"):
+        number, _, line = status.partition(", ")
+        made += [".TP", escaped(f"**{number}**" + (f", {line}" if line else "")), escaped(comes) + "."]
+    return made
+
+
+def asked_page():
+    start = section(ASKED, "Scores that are asked for")
+    form = blocks(start)[0][0].split()
+    return "\n".join([
+        ".\\\" Made by tools/manual.py from docs/ASKED.md. Change that, and make it anew.",
+        '.TH RANKSQL_ASK 1 "" "ranksql" "User Commands"',
+        ".SH NAME",
+        "ranksql_ask \\- answers top\\-k queries over CSV files, and asks a process for scores",
+        ".SH SYNOPSIS",
+        ".B " + plain(form[0]),
+        plain(" ".join(form[1:5])) + " \\fBrun\\fR SCRIPT SEED",
+        ".br",
+        ".B " + plain(form[0]),
+        plain(" ".join(form[1:5])) + " \\fBplain\\fR SCRIPT",
+        ".SH DESCRIPTION",
+        *(line for line in paragraphs([line for line in start if not line.startswith(("    ", "|"))])[1:]),
+        ".SH WORDS",
+        *entries(table(start, "word")),
+        ".SH HOW TO ATTACH A SERVICE", *prose("How to attach a service")[1:],
+        ".SH FILES AND PIPES", *prose("Files and pipes")[1:],
+        ".SH THE GUESS", *prose("What the guess is for")[1:],
+        ".SH HOW TO RESUME", *prose("How to resume")[1:],
+        ".SH HOW TO STOP AT A BUDGET", *prose("How to stop at a budget")[1:],
+        ".SH EXIT STATUS",
+        "The statuses and lines are those of \\fBranksql\\fR(1). Besides,",
+        *asked_statuses(),
+        ".SH SEE ALSO",
+        "\\fBranksql\\fR(1), whose scripts and tables these are; docs/ASKED.md says what is proved.",
+    ]) + "\n"
+
+
 def main():
-    if sys.argv[1:]:
+    pages = {(): page, ("ask",): asked_page}
+    make = pages.get(tuple(sys.argv[1:]))
+    if not make:
         print(__doc__)
         return 0 if sys.argv[1] in ("--help", "-h") else 2
     try:
-        sys.stdout.buffer.write(page().encode())
+        sys.stdout.buffer.write(make().encode())
         sys.stdout.flush()
     except (OSError, Missing, ValueError) as fault:
         print(f"manual.py: {fault}", file=sys.stderr)

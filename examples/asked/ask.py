@@ -3,18 +3,20 @@
 
 usage: examples/asked/ask.py PROGRAM SCORES [WORD ..]
 
-PROGRAM is the built ranksql_ask. SCORES is the file of known scores, which is made where it isn't there. The words are those
-of the run; without any, `run examples/asked/best.sql 1`. It is started at the top of the repository. BUDGET in the
-environment is the greatest number of answers: after it the answering ends, and the rows so far stay. DELAY is how many seconds
-an answer takes.
+PROGRAM is the script ./ranksql_ask, or the program that it built. SCORES is the file of known scores, which is made where it
+isn't there. The words are those of the run; without any, `run examples/asked/best.sql 1`. It is started at the top of the
+repository. BUDGET in the environment is the greatest number of answers: after it the answering ends, and the rows so far stay.
+DELAY is how many seconds an answer takes.
+
+In front of each row stands how many answers were paid for when it came.
 """
 
 import csv
 import hashlib
 import os
+import selectors
 import subprocess
 import sys
-import threading
 import time
 
 NAME = "fits"
@@ -28,53 +30,76 @@ def score(title, minutes):
     return max(0, min(50, 50 - abs(int(minutes) - 95) + digest[0] % 21 - 10))
 
 
-def answer(questions, answers, budget, counts):
-    """Reads questions, one record of CSV each, and writes an answer for each, up to the budget."""
-    with os.fdopen(questions, newline="", encoding="utf-8") as source, os.fdopen(answers, "w") as sink:
-        for record in csv.reader(source):
-            if counts["answers"] >= budget:
-                return  # the pipes are closed, and the program ends with status 8
-            assert record[0] == NAME
-            sink.write(f"{score(*record[1:])}\n")
-            sink.flush()
-            counts["answers"] += 1
-
-
 def films_within(minutes):
     """How many calls `plain` would have paid for: one for each film that satisfies the condition."""
     with open("examples/films/films.csv", newline="", encoding="utf-8") as source:
         return sum(int(row["minutes"]) <= minutes for row in csv.DictReader(source))
 
 
+class Run:
+    """A run of the program, with a pipe for its questions and one for the answers."""
+
+    def __init__(self, program, scores, words, budget):
+        self.questions, asked = os.pipe()
+        told, self.answers = os.pipe()
+        command = [program, NAME, scores, f"/dev/fd/{asked}", f"/dev/fd/{told}", *words]
+        self.process = subprocess.Popen(command, pass_fds=(asked, told), stdout=subprocess.PIPE)
+        os.close(asked)
+        os.close(told)
+        self.rows = self.process.stdout.fileno()
+        os.set_blocking(self.rows, False)
+        self.budget, self.paid, self.question, self.row = budget, 0, b"", b""
+        self.ready = selectors.DefaultSelector()
+        self.ready.register(self.rows, selectors.EVENT_READ)
+        self.ready.register(self.questions, selectors.EVENT_READ)
+
+    def show_rows(self):
+        """Prints the rows that are there. Whether the program may put more."""
+        while True:
+            try:
+                read = os.read(self.rows, 65536)
+            except BlockingIOError:
+                return True
+            if not read:
+                return False
+            *lines, self.row = (self.row + read).split(b"\n")
+            for line in lines:
+                print(f"{self.paid} answers  {line.decode()}", flush=True)
+
+    def answer(self):
+        """Reads what is there of a question, one record of CSV, and answers it where it is whole."""
+        read = os.read(self.questions, 65536)
+        self.question += read
+        if not read or self.paid >= self.budget:
+            # The program asks no more, or may not. Behind its budget it ends with status 8.
+            self.ready.unregister(self.questions)
+            os.close(self.questions)
+            os.close(self.answers)
+        elif self.question.endswith(b"\n") and self.question.count(b'"') % 2 == 0:
+            name, *arguments = next(csv.reader(self.question.decode().splitlines(keepends=True)))
+            assert name == NAME
+            os.write(self.answers, b"%d\n" % score(*arguments))
+            self.paid, self.question = self.paid + 1, b""
+
+    def to_end(self):
+        """Shows all rows and answers all questions. Its answer is the exit status."""
+        while True:
+            keys = [key.fileobj for key, _ in self.ready.select()]
+            # Rows that the program put before a question are there when the question is.
+            if not self.show_rows():
+                return self.process.wait()
+            if self.questions in keys:
+                self.answer()
+
+
 def main():
     if len(sys.argv) < 3:
         sys.exit(__doc__)
-    program, scores = sys.argv[1:3]
-    words = sys.argv[3:] or ["run", "examples/asked/best.sql", "1"]
-    budget = int(os.environ.get("BUDGET", "1000000"))
-    counts = {"answers": 0}
-    asked_here, asked_there = os.pipe()
-    told_there, told_here = os.pipe()
-    began = time.monotonic()
-    process = subprocess.Popen(
-        [program, NAME, scores, f"/dev/fd/{asked_there}", f"/dev/fd/{told_there}", *words],
-        pass_fds=(asked_there, told_there),
-        stdout=subprocess.PIPE,
-        text=True,
-        encoding="utf-8",
-    )
-    os.close(asked_there)
-    os.close(told_there)
-    thread = threading.Thread(target=answer, args=(asked_here, told_here, budget, counts))
-    thread.start()
-    for line in process.stdout:
-        paid = counts["answers"]
-        print(f"{time.monotonic() - began:7.2f} s {paid:5d} answers  {line}", end="", flush=True)
-    status = process.wait()
-    thread.join()
+    program, scores, *words = sys.argv[1:]
+    run = Run(program, scores, words or ["run", "examples/asked/best.sql", "1"], int(os.environ.get("BUDGET", "1000000")))
+    status = run.to_end()
     plain = films_within(120)
-    print(f"status {status}: {counts['answers']} answers for {counts['answers'] * PRICE:.2f} euros; "
-          f"plain would pay for {plain}, {plain * PRICE:.2f} euros")
+    print(f"status {status}: {run.paid} answers for {run.paid * PRICE:.2f} euros; plain would pay for {plain}, {plain * PRICE:.2f} euros")
     return 0 if status in (0, 8) else 1
 
 

@@ -5,6 +5,7 @@ import subprocess
 
 from .advice import Case, all_advice, number, seeds_text
 from .command import run_command, tell
+from .limits import GREATEST_SEED
 from .program import find_program, helper, no_program
 from .queries import read_queries
 from .refusal import READ, USAGE, Refusal
@@ -20,7 +21,6 @@ STATUSES = """\
 The status is that of `ranksql` where it refuses the script, with its line; else 0 where all was counted, 1 where something took
 too long, 2 for wrong words, 3 for a script that can't be read, and 70 where there is no program. docs/ADVISE.md has examples."""
 NO_PROGRAM = 70
-GREATEST_SEED = 18_446_744_073_709_551_615
 MOST_SHOWN = 100
 
 

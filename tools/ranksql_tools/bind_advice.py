@@ -2,7 +2,11 @@
 
 import difflib
 
-from ranksql_tools.script_parse import Explain, Index, Insert, Predicate, Select, Table
+from ranksql_tools.limits import (
+    GREATEST_COST, GREATEST_LIMIT, GREATEST_SCORE, GREATEST_WEIGHT, MOST_COLUMNS, MOST_CONDITIONS, MOST_INDEXES, MOST_OUTPUTS, MOST_PARAMETERS,
+    MOST_PREDICATES, MOST_ROWS, MOST_SOURCES, MOST_TABLES, MOST_TERMS
+)
+from ranksql_tools.script_parse import Explain, Index, Insert, Node, Predicate, Select, Table
 
 FUNCTIONS = ("COUNT", "SUM", "AVG", "ABS", "MIN", "MAX", "RANDOM", "RAND", "LENGTH", "LOWER", "UPPER", "ROUND", "COALESCE")
 NUMBER, TEXT, CONDITION = "a number", "a text", "a condition"
@@ -71,7 +75,7 @@ def of_catalogue(variant, token):
             f"There already is something of the name {token.says}. Tables, predicates and rank indexes share their names, so choose another one;"
             " a script makes each thing once."
         )
-    return "A run has at most 16 tables, 64 predicates and 64 rank indexes. Leave out what no query uses, or split the script."
+    return f"A run has at most {MOST_TABLES} tables, {MOST_PREDICATES} predicates and {MOST_INDEXES} rank indexes. Leave out what no query uses, or split the script."
 
 
 def limit(names, token, place):
@@ -80,38 +84,38 @@ def limit(names, token, place):
         if statement.most.start == place:
             if token.text.strip("0") == "":
                 return "MAX is from 1 on: the greatest score that the predicate can give. A MAX of 0 would give each row the same score."
-            return "MAX is at most 4,294,967,295. Let the formula divide, so that the scores are smaller: AS population / 1000."
+            return f"MAX is at most {GREATEST_SCORE:,}. Let the formula divide, so that the scores are smaller: AS population / 1000."
         if statement.cost and statement.cost.start == place:
-            return "COST is from 0 to 65,535. It is what a call costs where reading a row of a table costs 1."
-        return "A predicate has 8 parameters at most. Compute a part of the formula in the file, as a column of its own."
+            return f"COST is from 0 to {GREATEST_COST:,}. It is what a call costs where reading a row of a table costs 1."
+        return f"A predicate has {MOST_PARAMETERS} parameters at most. Compute a part of the formula in the file, as a column of its own."
     if isinstance(statement, Insert):
-        return "A table has 131,072 rows at most: those of its file, and those that were put in. This row and those behind it are too many."
+        return f"A table has {MOST_ROWS:,} rows at most: those of its file, and those that were put in. This row and those behind it are too many."
     if isinstance(statement, Table):
-        return "A table has 64 columns at most. Keep those that the queries need; the helper `prepare` writes a file of the columns that you name."
+        return f"A table has {MOST_COLUMNS} columns at most. Keep those that the queries need; the helper `prepare` writes a file of the columns that you name."
     if isinstance(select, Select):
         return limit_of_query(select, token, place)
     if token.sort == "number":
-        return "FETCH has a number of rows from 0 to 1,000,000."
+        return f"FETCH has a number of rows from 0 to {GREATEST_LIMIT:,}."
     return None
 
 
 def limit_of_query(select, token, place):
     if select.limit and select.limit.start == place:
-        return "LIMIT is from 0 to 1,000,000. Without LIMIT all rows are printed."
+        return f"LIMIT is from 0 to {GREATEST_LIMIT:,}. Without LIMIT all rows are printed."
     for count, term in enumerate(select.terms):
         if term.weight and term.weight.start == place:
             if term.weight.text.strip("0") == "":
                 return "A weight is from 1 on. A term of the weight 0 changes no score, so leave the whole term out."
-            if count < 8:
-                return "A weight is at most 1,000,000. Divide all weights by one number, or let a predicate's formula give smaller scores."
+            if count < MOST_TERMS:
+                return f"A weight is at most {GREATEST_WEIGHT:,}. Divide all weights by one number, or let a predicate's formula give smaller scores."
         if term.start == place:
-            return "ORDER BY has 8 terms at most. Put two predicates over one table into one formula."
+            return f"ORDER BY has {MOST_TERMS} terms at most. Put two predicates over one table into one formula."
     for block in select.blocks:
-        if any(source[0].start == place or source[1].start == place for source in block.sources[6:]):
-            return "FROM has 6 tables at most. Join some of them in a file beforehand."
+        if any(source[0].start == place or source[1].start == place for source in block.sources[MOST_SOURCES:]):
+            return f"FROM has {MOST_SOURCES} tables at most. Join some of them in a file beforehand."
         if block.where and block.where.start <= place:
-            return "WHERE has 32 parts at most that AND joins. Put several into one by brackets and NOT .. OR, or filter the file."
-    return "A query has 384 output columns at most. Name those that you need."
+            return f"WHERE has {MOST_CONDITIONS} parts at most that AND joins. Put several into one by brackets and NOT .. OR, or filter the file."
+    return f"A query has {MOST_OUTPUTS} output columns at most. Name those that you need."
 
 
 def name_twice(names, token, place):
@@ -207,7 +211,7 @@ def no_column(names, token, place):
     if column.alias:
         return no_dotted(names, block, column, aliases, token)
     every = [name for columns in aliases.values() for name in columns]
-    return missing_column(token, every, listed(aliases))
+    return missing_column(token, every, listed(aliases), meant_text(names, block, token, place))
 
 
 def no_parameter(statement, token, place):
@@ -219,16 +223,54 @@ def no_parameter(statement, token, place):
         return meant(token.says, close)
     if token.sort == "quoted":
         return f"A text stands between single quotes: '{token.says}'. Between double ones stands a name."
+    compared_with = beside(statement.formula, place)
+    if compared_with is not None and ("TEXT" in [kind for column, kind in statement.columns if column.says == named_in(compared_with)]):
+        return f"A text stands between single quotes: '{token.says}'. Without them it is a name, and a formula has those of its parameters alone, here {listed(parameters)}."
     return (
         f"A formula speaks of its parameters alone, here {listed(parameters)}. Make {token.says} one of them, with its kind, and give the column in"
         " ORDER BY."
     )
 
 
-def missing_column(token, columns, where):
+def beside(node, place):
+    """What is compared with the column at a place, or None where nothing is."""
+    if node is None:
+        return None
+    if node.kind == "compare":
+        for one, other in (node.parts, reversed(node.parts)):
+            if one.kind == "column" and one.start == place:
+                return other
+    return next((found for part in node.parts if isinstance(part, Node) for found in [beside(part, place)] if found is not None), None)
+
+
+def named_in(node):
+    """The name of the column that a part of an expression is, if it is one."""
+    return node.parts[0].name if node.kind == "column" else None
+
+
+def meant_text(names, block, token, place):
+    """That a word is meant for a text: one that is compared with a column of texts, or given where a predicate has a text."""
+    compared_with, shown = beside(block.where, place), f"'{token.says}'"
+    if compared_with is not None and named_in(compared_with) is not None:
+        column = compared_with.parts[0]
+        kinds = [made[1] for table, alias in block.sources if column.alias in ("", alias.says) and table.says in names.tables
+                 for made in names.tables[table.says].columns if made[0].says == column.name]
+        if kinds[:1] == ["TEXT"]:
+            return f"A text stands between single quotes: {shown}."
+    for term in names.select.terms:
+        made = names.predicates.get(term.predicate.says)
+        for argument, parameter in zip(term.args, made.columns if made else []):
+            if argument.start == place and parameter[1] == "TEXT":
+                return f"If it is a text, it stands between single quotes: {shown}."
+    return ""
+
+
+def missing_column(token, columns, where, says=""):
     close = closest(token.says, columns)
     if close:
         return meant(token.says, close)
+    if says and token.sort != "quoted":
+        return f"No column of {where} is called {token.says}. {says}"
     if token.sort == "quoted":
         return f"A text stands between single quotes: '{token.says}'. Between double ones stands a name, and no column has this one."
     return f"No column of {where} is called {token.says}. There are: {listed(columns)}."

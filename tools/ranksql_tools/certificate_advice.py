@@ -2,21 +2,24 @@
 
 from itertools import islice
 
+from ranksql_tools.csv_source import PACKED
 from ranksql_tools.data_advice import number_of, record_lines
+from ranksql_tools.limits import GREATEST_K, GREATEST_SCORE, MOST_CERTIFICATE_ROWS
 from ranksql_tools.table_file import WHOLE, read_file, records
 
-FIRST = "The first record of a certificate is `cert,1,K`, with K from 0 to 1,000,000: how many pairs are wanted."
+FIRST = f"The first record of a certificate is `cert,1,K`, with K from 0 to {GREATEST_K:,}: how many pairs are wanted."
 KINDS = [b"left", b"right", b"pair"]
-GREATEST = 4_294_967_295
 
 
 def of_certificate(fault):
     """The lines that show the record which fits no certificate, and why it doesn't."""
     if fault.variant == "CertTooLong":
-        return [], "A certificate has at most 8,192 rows of a side, and so many pairs take more rows of this file. Ask for fewer pairs, or take `feed`, which has no such limit."
+        return [], f"A certificate has at most {MOST_CERTIFICATE_ROWS:,} rows of a side, and so many pairs take more rows of this file. Ask for fewer pairs, or take `feed`, which has no such limit."
     body = read_file(fault.name)
     if body is None:
         return [], "The file isn't a plain one that could be read a second time, so the record can't be shown."
+    if body.startswith(PACKED):
+        return [], f"The file is packed by gzip, and a certificate is plain text: gunzip -c {fault.name} >NEW."
     place = fault.numbers[0]
     found = list(islice(records(body), place))
     if not found:
@@ -27,7 +30,7 @@ def of_certificate(fault):
 
 
 def is_number(field):
-    return bool(WHOLE.fullmatch(field)) and 0 <= int(field) <= GREATEST
+    return bool(WHOLE.fullmatch(field)) and 0 <= int(field) <= GREATEST_SCORE
 
 
 def why_not(place, found):
@@ -47,11 +50,11 @@ def why_not(place, found):
     if before == [kind, b"end", b"end"]:
         return f"No {name} record comes behind `{name},end,end`."
     if kind == b"pair":
-        return "The fields behind `pair` are the numbers of a left row and of a right one, from 0 to 4,294,967,295."
+        return f"The fields behind `pair` are the numbers of a left row and of a right one, from 0 to {GREATEST_SCORE:,}."
     if not is_number(second):
-        return f"The second field is a score, from 0 to 4,294,967,295, or `end` in `{name},end,end`."
+        return f"The second field is a score, from 0 to {GREATEST_SCORE:,}, or `end` in `{name},end,end`."
     try:
         third.decode("utf-8")
     except UnicodeDecodeError:
         return "The text by which the row is joined isn't UTF-8."
-    return "A side of a certificate has at most 8,192 rows."
+    return f"A side of a certificate has at most {MOST_CERTIFICATE_ROWS:,} rows."

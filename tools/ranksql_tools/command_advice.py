@@ -2,19 +2,17 @@
 
 import os
 
-MOST_SEED = 18_446_744_073_709_551_615
-FORMS = {
-    "top": "ranksql top FILE COLUMN MAX K",
-    "run": "ranksql run SCRIPT SEED",
-    "plain": "ranksql plain SCRIPT",
-    "gen": "ranksql gen NUMBER ROWS",
-    "ta": "ranksql ta SCRIPT",
-    "feed": "ranksql feed LEFT RIGHT K",
-    "cert": "ranksql cert LEFT RIGHT K",
-    "check": "ranksql check FILE",
-    "view": "ranksql view SCRIPT",
-}
-WORDS = {"top": 5, "run": 3, "plain": 2, "gen": 3, "ta": 2, "feed": 4, "cert": 4, "check": 2, "view": 2}
+from ranksql_tools.limits import FORMS, GREATEST_K, GREATEST_SCORE, GREATEST_SEED, MOST_CURSORS, MOST_GENERATED_ROWS
+
+
+def form_of(word):
+    """A word of the program with what stands behind it, as it is called."""
+    return f"ranksql {word} {FORMS[word]}"
+
+
+def count_of(word):
+    """How many words there are, with this one."""
+    return 1 + len(FORMS[word].split())
 
 
 def of_usage(words):
@@ -32,7 +30,7 @@ def of_usage(words):
         if os.path.exists(word):
             return f"A word stands in front of the script: `ranksql run {word} 1`, or `ranksql plain {word}`."
         return f"`{word}` is no word of the program. `run SCRIPT SEED` and `plain SCRIPT` run a script."
-    if len(words) != WORDS[word]:
+    if len(words) != count_of(word):
         return of_count(word, words)
     return of_numbers(word, words)
 
@@ -46,28 +44,27 @@ def of_count(word, words):
         )
     if word == "plain" and len(words) == 3:
         return f"`plain` takes no sample, so it has no seed: ranksql plain {words[1]}."
-    many = "many" if len(words) > WORDS[word] else "few"
-    return f"There are too {many} words. The form is `{FORMS[word]}`; a name with blanks stands between quotes of the shell."
+    many = "many" if len(words) > count_of(word) else "few"
+    return f"There are too {many} words. The form is `{form_of(word)}`; a name with blanks stands between quotes of the shell."
+
+
+# From which number to which one the words are that are numbers.
+RANGES = {
+    "MAX": (1, GREATEST_SCORE), "K": (0, GREATEST_K), "SEED": (0, GREATEST_SEED),
+    "NUMBER": (0, GREATEST_SCORE), "ROWS": (1, MOST_GENERATED_ROWS),
+}
 
 
 def of_numbers(word, words):
     """What to do where a number is none, or out of its range."""
-    ranges = {
-        "top": [(3, "MAX", 1, 4_294_967_295), (4, "K", 0, 1_000_000)],
-        "run": [(2, "SEED", 0, MOST_SEED)],
-        "plain": [],
-        "gen": [(1, "NUMBER", 0, 4_294_967_295), (2, "ROWS", 1, 2_000)],
-        "ta": [],
-        "feed": [(3, "K", 0, 1_000_000)],
-        "cert": [(3, "K", 0, 1_000_000)],
-        "check": [],
-        "view": [],
-    }
-    for place, name, least, most in ranges[word]:
+    for place, name in enumerate(FORMS[word].split(), 1):
+        if name not in RANGES:
+            continue
+        least, most = RANGES[name]
         text = words[place]
         if not (text.isascii() and text.isdigit() and len(text) <= 20 and least <= int(text) <= most):
-            return f"{name} is a whole number from {least:,} to {most:,}, and `{text}` is none. The form is `{FORMS[word]}`."
-    return f"The form is `{FORMS[word]}`."
+            return f"{name} is a whole number from {least:,} to {most:,}, and `{text}` is none. The form is `{form_of(word)}`."
+    return f"The form is `{form_of(word)}`."
 
 
 def of_session(fault):
@@ -79,7 +76,7 @@ def of_session(fault):
         )
     if fault.variant == "NameTaken":
         return f"The cursor {fault.name} is still open. Close it first, by CLOSE {fault.name};, or choose another name."
-    return "64 cursors are open, and no more can be. Close some first, by CLOSE name;."
+    return f"{MOST_CURSORS} cursors are open, and no more can be. Close some first, by CLOSE name;."
 
 
 def of_ineligible(fault):

@@ -6,14 +6,14 @@ from decimal import Decimal
 from typing import NamedTuple, Optional
 
 from .csv_cells import DATE_ORDERS, MISSING, decimals_of, moment_of, number_of, scaled
+from .limits import GREATEST_NUMBER
 from .refusal import TABLE, USAGE, Refusal
 from .script_parse import FOREIGN, RESERVED
-from .table_file import GREATEST, name_in_script
+from .table_file import name_in_script
 
 MOST_DECIMALS = 18
 # Beyond so many decimals it is told how to have fewer.
 MANY_DECIMALS = 9
-MOST_COLUMNS = 64
 DAY_SECONDS = 86400
 # Letters that have no accent to take away.
 LETTERS = str.maketrans({"ß": "ss", "æ": "ae", "Æ": "Ae", "œ": "oe", "Œ": "Oe", "ø": "o", "Ø": "O", "ł": "l", "Ł": "L", "đ": "d", "Đ": "D",
@@ -162,7 +162,7 @@ def reason_for_text(raw, numbers):
     signs = {number.sign for number in numbers.values()}
     if len(signs) > 1:
         return "only some numbers have a sign: %s; --number %s leaves it out" % (", ".join(sorted(signs - {""})), raw.name)
-    wide = [cell for cell, number in numbers.items() if abs(number.value) > GREATEST]
+    wide = [cell for cell, number in numbers.items() if abs(number.value) > GREATEST_NUMBER]
     if wide:
         return "numbers are beyond 4 * 10^18: %s" % shown_cells(wide)
     return ""
@@ -189,7 +189,7 @@ def number_column(raw, numbers, wishes, strange):
     values = [number.value for number in numbers.values()] + ([null] if empty else [])
     decimals, rounded = power_for(values, raw.said(wishes.decimals_of, wishes.decimals))
     made = {cell: scaled(number.value, decimals) for cell, number in numbers.items()}
-    if any(abs(value) > GREATEST for value in made.values()):
+    if any(abs(value) > GREATEST_NUMBER for value in made.values()):
         raise Refusal(TABLE, "%s: its numbers are beyond 4 * 10^18: --decimals %s=N with a smaller N, or --text %s"
                       % (raw.name, raw.name, raw.name))
     notes += spelling_notes(raw, numbers)
@@ -222,7 +222,7 @@ def power_for(values, wished):
     needed = max(map(decimals_of, values))
     decimals = min(needed, MOST_DECIMALS) if wished is None else wished
     widest = max(abs(value) for value in values)
-    while wished is None and decimals and widest.scaleb(decimals) > GREATEST:
+    while wished is None and decimals and widest.scaleb(decimals) > GREATEST_NUMBER:
         decimals -= 1
     return decimals, needed > decimals
 

@@ -12,12 +12,14 @@ import zlib
 from collections import Counter
 from typing import NamedTuple
 
+from .csv_json import NoRows, is_json, records_of
 from .refusal import READ, TABLE, Refusal
 
 # What is held in memory of a file before it is put on the disk.
 HELD = 64 * 1024 * 1024
 CHUNK = 1024 * 1024
-# How much of a file is looked at to find its delimiter.
+# How much of a file is looked at to find its encoding, and its delimiter.
+LOOKED_AT_BYTES = 4096
 LOOKED_AT = 256 * 1024
 LOOKED_AT_RECORDS = 500
 DELIMITERS = {"comma": ",", "tab": "\t", "semicolon": ";", "bar": "|", "space": " "}
@@ -32,7 +34,12 @@ NOT_TEXT = (
     (b"\xfd7zXZ", "packed by xz"),
     (b"PAR1", "a Parquet file"),
     (b"RDX", "data of R"),
+    (b"<!DOCTYPE", "a web page (HTML)"),
+    (b"<!doctype", "a web page (HTML)"),
+    (b"<html", "a web page (HTML)"),
+    (b"<?xml", "XML"),
 )
+PACKED = b"\x1f\x8b"
 MARKS = (
     (codecs.BOM_UTF8, "utf-8-sig"),
     (codecs.BOM_UTF32_LE, "utf-32"),
@@ -75,7 +82,7 @@ class Source:
 
     def __init__(self, path, spooled, encoding, delimiter, skipped):
         self.path, self.encoding, self.delimiter, self.skipped = path, encoding, delimiter, skipped
-        self.quotes, self.after_space = DOUBLED, delimiter == " "
+        self.quotes, self.after_space, self.is_json = DOUBLED, delimiter == " ", False
         self._spooled = spooled
 
     def close(self):
@@ -101,6 +108,15 @@ class Source:
         except csv.Error as error:
             raise csv.Error("line %d: %s" % (reader.line_num + self.skipped, error)) from None
 
+    def take_records(self, records):
+        """Puts the records of a JSON text in the place of the file's bytes."""
+        self._spooled.close()
+        self._spooled = tempfile.SpooledTemporaryFile(max_size=HELD)
+        text = io.TextIOWrapper(Unclosed(self._spooled), encoding="utf-8", errors="surrogatepass", newline="")
+        csv.writer(text, lineterminator="\n").writerows(records)
+        text.flush()
+        self.encoding, self.delimiter, self.skipped, self.is_json = "utf-8", ",", 0, True
+
     def shape(self):
         """One pass over all records. It fails as `csv.reader` does where the quotes aren't those that are read."""
         header, lengths, filled_behind, blank, many_lines = None, Counter(), False, 0, 0
@@ -120,7 +136,7 @@ class Source:
 
 
 class Unclosed(io.RawIOBase):
-    """Reads from a file, and doesn't close it when it is closed itself."""
+    """Reads from a file or writes to it, and doesn't close it when it is closed itself."""
 
     def __init__(self, file):
         super().__init__()
@@ -128,6 +144,12 @@ class Unclosed(io.RawIOBase):
 
     def readable(self):
         return True
+
+    def writable(self):
+        return True
+
+    def write(self, data):
+        return self._file.write(data)
 
     def readinto(self, room):
         data = self._file.read(len(room))
@@ -149,6 +171,9 @@ def open_source(path, encoding=None, delimiter=None, skipped=0):
             raise Refusal(TABLE, "there is no encoding %s" % encoding) from None
         if "\0" in looked_at:
             raise Refusal(TABLE, NUL_BYTES % path)
+        if is_json(looked_at):
+            source.take_records(json_records(source))
+            return source
         named = SEPARATOR_LINE.match(looked_at)
         if named:
             source.skipped += 1
@@ -159,6 +184,17 @@ def open_source(path, encoding=None, delimiter=None, skipped=0):
     except BaseException:
         spooled.close()
         raise
+
+
+def json_records(source):
+    """The records of a JSON file, or a refusal of one that has no rows."""
+    try:
+        return records_of(source.text().read())
+    except UnicodeError as error:
+        raise Refusal(TABLE, "%s isn't in %s: %s" % (source.path, source.encoding, error.reason)) from None
+    except (NoRows, RecursionError) as error:
+        raise Refusal(TABLE, "%s is JSON, and holds no rows: %s; a list of objects, or an object a line, makes a table"
+                      % (source.path, str(error) if isinstance(error, NoRows) else "it is too deep")) from None
 
 
 def spool(path):
@@ -176,7 +212,7 @@ def copy_into(spooled, path):
     """Copies a file."""
     try:
         with sys.stdin.buffer if path == "-" else open(path, "rb") as file:
-            packed = file.peek(2)[:2] == b"\x1f\x8b"
+            packed = file.peek(2)[:2] == PACKED
             shutil.copyfileobj(gzip.GzipFile(fileobj=file) if packed else file, spooled, CHUNK)
     except FileNotFoundError:
         raise Refusal(READ, "there is no file %s" % path) from None
@@ -192,20 +228,33 @@ def find_encoding(path, spooled):
     """The encoding that a mark at the start names; else UTF-16 where every second byte is 0, UTF-8 where the bytes are of
     it, and else Windows-1252, or Latin-1 where bytes have no meaning there."""
     spooled.seek(0)
-    head = spooled.read(4096)
-    for mark, encoding in MARKS:
-        if head.startswith(mark):
-            return encoding
-    for start, what in NOT_TEXT:
-        if head.startswith(start):
-            raise Refusal(TABLE, "%s is %s: save the table as CSV first" % (path, what))
-    even, odd = head[0::2].count(0), head[1::2].count(0)
-    if max(even, odd) * 3 > len(head) and min(even, odd) * 10 < max(even, odd):
-        return "utf-16-le" if odd > even else "utf-16-be"
+    head = spooled.read(LOOKED_AT_BYTES)
+    what = no_text(head)
+    if what:
+        raise Refusal(TABLE, "%s is %s: save the table as CSV first" % (path, what))
+    encoding = encoding_at(head)
+    if encoding:
+        return encoding
     for encoding in ("utf-8", "cp1252"):
         if is_in(path, spooled, encoding):
             return encoding
     return "latin-1"
+
+
+def no_text(head):
+    """What a file is by its first bytes, where it is no text that could be a table; else nothing."""
+    return next((what for start, what in NOT_TEXT if head.startswith(start)), "")
+
+
+def encoding_at(head):
+    """The encoding that a mark at the start names, or UTF-16 where every second byte is 0; else nothing."""
+    for mark, encoding in MARKS:
+        if head.startswith(mark):
+            return encoding
+    even, odd = head[0::2].count(0), head[1::2].count(0)
+    if max(even, odd) * 3 > len(head) and min(even, odd) * 10 < max(even, odd):
+        return "utf-16-le" if odd > even else "utf-16-be"
+    return ""
 
 
 def is_in(path, spooled, encoding):

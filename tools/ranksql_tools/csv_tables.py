@@ -7,15 +7,14 @@ import tempfile
 from collections import Counter
 from typing import NamedTuple
 
-from .csv_columns import MOST_COLUMNS, Raw, counted, find_mark, make_columns, make_names, plain_name, unused
+from .csv_columns import Raw, counted, find_mark, make_columns, make_names, plain_name, shown_cells, unused
 from .csv_source import open_source, read_shape
+from .file_sorts import numbers_in_header, parted_by_blanks
+from .limits import GREATEST_SCORE, MOST_COLUMNS, MOST_ROWS, MOST_TABLE_BYTES
 from .refusal import TABLE, USAGE, WRITE, Refusal
 from .script_text import shown
 from .table_file import name_in_script, text_in_script
 
-MOST_ROWS = 131_072
-MOST_BYTES = 32 * 1024 * 1024
-GREATEST_MAX = 4_294_967_295
 SHOWN_LINES = 3
 EXTRA_COLUMNS = ("_day", "_second")
 NAMES_OF_DELIMITERS = {",": "commas", "\t": "tabs", ";": "semicolons", "|": "bars", " ": "spaces"}
@@ -80,8 +79,6 @@ def with_names(source, shape, options):
         headings = ["row"] + headings
         notes.append("Each row has one field more than the header: the first is its name, in the column row")
         shape = shape._replace(filled_behind=False)
-    elif headings and all(heading.replace(".", "").isdigit() for heading in headings):
-        notes.append("All names of the header are numbers: --no-header says that the file has none")
     refuse_long(source, shape, len(headings))
     return Opened(source, shape, headings, make_names(headings, options.keep_names), notes)
 
@@ -103,8 +100,8 @@ def chosen_columns(opened, wanted):
     none is."""
     if wanted is None:
         if len(opened.headings) > MOST_COLUMNS:
-            raise Refusal(TABLE, "%s has %d columns, and a table has 64 at most: --columns A,B,.. keeps those that you name, of %s"
-                          % (opened.source.path, len(opened.headings), ", ".join(map(shown, opened.names))))
+            raise Refusal(TABLE, "%s has %d columns, and a table has %d at most: --columns A,B,.. keeps those that you name, of %s"
+                          % (opened.source.path, len(opened.headings), MOST_COLUMNS, ", ".join(map(shown, opened.names))))
         return list(range(len(opened.headings)))
     places = []
     for name in next(csv.reader([wanted])):
@@ -118,7 +115,7 @@ def chosen_columns(opened, wanted):
         else:
             raise Refusal(USAGE, "%s has no column %s; it has %s" % (opened.source.path, shown(name), ", ".join(map(shown, opened.names))))
     if len(places) > MOST_COLUMNS:
-        raise Refusal(USAGE, "--columns names %d columns, and a table has 64 at most" % len(places))
+        raise Refusal(USAGE, "--columns names %d columns, and a table has %d at most" % (len(places), MOST_COLUMNS))
     if len(set(places)) < len(places):
         raise Refusal(USAGE, "--columns names a column twice")
     return places
@@ -200,7 +197,7 @@ def text_of(columns):
         csv.writer(room, lineterminator="\n").writerow([column.written(row) for column in columns])
         line = room.getvalue()
         size += len(line.encode())
-        if size > MOST_BYTES:
+        if size > MOST_TABLE_BYTES:
             return made.getvalue(), row
         made.write(line)
     return made.getvalue(), rows
@@ -210,6 +207,7 @@ def make_table(opened, options, tables, predicates):
     """Makes the table of a file and its script. The names that are given go into `tables` and `predicates`."""
     places = chosen_columns(opened, options.columns)
     cells, notes = read_rows(opened, places, options)
+    notes += notes_on_header(opened, places, cells, options)
     columns, mark = build(opened, places, cells, options)
     if options.drop_empty:
         cells, dropped = without_empty(columns, cells)
@@ -218,8 +216,8 @@ def make_table(opened, options, tables, predicates):
             columns, mark = build(opened, places, cells, options)
     text, rows = text_of(columns)
     if rows < len(cells[0]):
-        notes.append("%s left out: a table has 32 MiB at most, and these are the first"
-                     % counted(len(cells[0]) - rows, "row is", "rows are"))
+        notes.append("%s left out: a table has %d MiB at most, and these are the first"
+                     % (counted(len(cells[0]) - rows, "row is", "rows are"), MOST_TABLE_BYTES // 2**20))
         columns, mark = build(opened, places, [column[:rows] for column in cells], options)
         text, rows = text_of(columns)
     table = unused(options.table or table_name(opened.source.path), tables)
@@ -231,6 +229,19 @@ def make_table(opened, options, tables, predicates):
     told = ["%s: %s of %s in %s" % (table, counted(rows, "row"), counted(len(columns), "column"), shown(path))]
     told += ["%s: %s" % (table, note) for note in opened.notes + notes + empty_told(columns)]
     return Made(table, script, told)
+
+
+def notes_on_header(opened, places, cells, options):
+    """What is told of a header that may be a row, and of one that may have several names."""
+    if options.no_header:
+        return []
+    headings = [opened.headings[place] for place in places]
+    numbers = numbers_in_header(headings, cells)
+    if numbers:
+        return ["The header has numbers where the rows have: %s; if it is a row, --no-header keeps it" % shown_cells(numbers)]
+    if len(opened.headings) == 1 and not options.delimiter and cells and parted_by_blanks(opened.headings[0], cells[0]):
+        return ["There is one column, and most rows have as many words as its name or one more: --delimiter space takes blanks as what parts the fields"]
+    return []
 
 
 def empty_told(columns):
@@ -246,7 +257,7 @@ def table_name(path):
     if path == "-":
         return "data"
     stem = os.path.basename(path)
-    for ending in (".gz", ".csv", ".tsv", ".txt", ".tab", ".table"):
+    for ending in (".gz", ".csv", ".tsv", ".txt", ".tab", ".json", ".jsonl", ".ndjson", ".table"):
         if stem.lower().endswith(ending) and len(stem) > len(ending):
             stem = stem[:-len(ending)]
     return plain_name(stem, 1).replace("column_1", "data")
@@ -261,8 +272,9 @@ def file_notes(opened, rows, columns, mark):
     source, shape = opened.source, opened.shape
     encoding = NAMES_OF_ENCODINGS.get(source.encoding, source.encoding)
     parted = NAMES_OF_DELIMITERS.get(source.delimiter, source.delimiter)
-    notes = ["%s: %s of %s, read as %s with %s between the fields%s" % (
-        source.path, counted(rows, "row"), counted(columns, "column"), encoding, parted, ", decimals behind a comma" if mark == "comma" else "")]
+    read_as = "JSON" if source.is_json else "%s with %s between the fields" % (encoding, parted)
+    notes = ["%s: %s of %s, read as %s%s" % (source.path, counted(rows, "row"), counted(columns, "column"), read_as,
+                                             ", decimals behind a comma" if mark == "comma" else "")]
     if source.quotes.note:
         notes.append("Of quotes: " + source.quotes.note)
     if shape.blank and len(opened.headings) == 1:
@@ -302,7 +314,7 @@ def proposals(table, columns, predicates):
 def scores_of(column):
     """The MAX and the formula of the scores that grow with a column."""
     name, span, divisor = name_in_script(column.name), column.greatest - column.least, 1
-    while span // divisor > GREATEST_MAX:
+    while span // divisor > GREATEST_SCORE:
         divisor *= 10
     formula = name
     if column.least:

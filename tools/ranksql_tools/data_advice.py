@@ -4,11 +4,13 @@ import difflib
 import os
 import re
 
+from ranksql_tools.file_sorts import numbers_in_header, of_odd_file, parted_by_blanks
+from ranksql_tools.limits import GREATEST_NUMBER, GREATEST_SCORE, MOST_COLUMNS, MOST_ROWS, MOST_SCRIPT_BYTES, MOST_TABLE_BYTES
 from ranksql_tools.program import helper
 from ranksql_tools.scores import calls_of
 from ranksql_tools.script_parse import Table
 from ranksql_tools.script_text import line_number, shown, width
-from ranksql_tools.table_file import is_whole, name_in_script, read_file, records, text_in_script
+from ranksql_tools.table_file import WORD, is_whole, name_in_script, read_file, records, text_in_script
 
 MOST_ROWS_READ = 200_000
 MISSING = ("NA", "N/A", "NAN", "NULL", "NONE", "-", "?", ".", "#N/A", "INF", "-INF")
@@ -59,6 +61,9 @@ def of_table(fault, parser):
     body = read_file(fault.name)
     if body is None:
         return token, [], "The file isn't a plain one that could be read a second time, so the place in it can't be shown."
+    odd = of_odd_file(body, f"{helper('prepare')} {fault.name}")
+    if odd:
+        return token, [], odd
     found = list_of_records(body)
     if fault.variant == "NoHeader":
         return token, [], "The file is empty, or has blank lines alone. Its first line has to name the columns."
@@ -67,14 +72,14 @@ def of_table(fault, parser):
         return token, *of_header(fault, statement, body, found, header)
     if fault.variant == "TooManyRows":
         return token, [], (
-            f"A table has at most 131,072 rows. Keep a part of the file: head -n 131073 {fault.name} >part.csv keeps the first ones."
+            f"A table has at most {MOST_ROWS:,} rows. Keep a part of the file: head -n {MOST_ROWS + 1} {fault.name} >part.csv keeps the first ones."
         )
     row = fault.numbers[0]
     if row >= len(found):
         return token, [], "The file has changed since the program read it. Run the script again."
     record = found[row]
     if fault.variant == "FieldCount":
-        return token, record_lines(fault.name, body, record), of_field_count(fault, body, record, header)
+        return token, record_lines(fault.name, body, record), of_field_count(fault, found, record, header)
     if fault.variant == "OutOfOrder":
         return token, record_lines(fault.name, body, record, 1), of_order(fault)
     column = fault.numbers[1] - 1
@@ -98,7 +103,7 @@ def list_of_records(body):
     return made
 
 
-def of_field_count(fault, body, record, header):
+def of_field_count(fault, found, record, header):
     """What to do where a row has too many or too few fields."""
     row, count = fault.numbers
     wanted = len(header)
@@ -107,7 +112,12 @@ def of_field_count(fault, body, record, header):
         return f"{says} A field that has a comma stands between double quotes: \"a, b\". {helper('prepare')} {fault.name} says which rows it leaves out."
     if any(b"\n" in field for field in record.fields):
         return f"{says} A double quote begins a field and is closed lines further down, or never. Double it, or take it away."
-    return f"{says} Each field that is empty needs its comma. {helper('prepare')} {fault.name} says which rows it leaves out."
+    short = sum(len(other.fields) < wanted for other in found[1:])
+    more = f" {short:,} rows are shorter than the header." if short > 1 else ""
+    return (
+        f"{says}{more} Each field that is empty needs its comma. {helper('prepare')} {fault.name} puts empty cells at the end of such rows, and"
+        " counts them."
+    )
 
 
 def kinds_of(found, count):
@@ -124,13 +134,22 @@ def of_header(fault, statement, body, found, header):
     """What to do where the header isn't that of the statement."""
     path = fault.name
     lines = record_lines(path, body, found[0])
-    if fault.variant == "NoColumn":
-        return lines, f"The header has no such column. It has: {', '.join(header[:20])}{', ..' if len(header) > 20 else ''}."
-    if len(header) > 64:
-        return lines, f"The file has {len(header)} columns, and a table has 64 at most. {helper('prepare')} {path} writes a file with those that you name."
+    if len(header) > MOST_COLUMNS and fault.variant != "NoColumn":
+        return lines, f"The file has {len(header)} columns, and a table has {MOST_COLUMNS} at most. {helper('prepare')} {path} writes a file with those that you name."
     for delimiter, name in ((";", "semicolons"), ("\t", "tabs"), ("|", "bars")):
         if len(header) == 1 and delimiter in found[0].fields[0].decode("utf-8", "replace"):
             return lines, f"The fields of the file are parted by {name}, and a table file has commas. {helper('prepare')} {path} writes such a file, and its CREATE TABLE."
+    if len(header) == 1 and parted_by_blanks(header[0], [decoded(record.fields[0]) for record in found[1:] if len(record.fields) == 1]):
+        return lines, (
+            f"The fields of the file are parted by blanks, and a table file has commas. {helper('prepare')} --delimiter space {path} writes such a"
+            " file, and its CREATE TABLE."
+        )
+    wanted = [column[0].says for column in statement.columns] if statement else []
+    row = row_in_front(path, found, header, wanted)
+    if row:
+        return lines, row
+    if fault.variant == "NoColumn":
+        return lines, f"The header has no such column. It has: {', '.join(header[:20])}{', ..' if len(header) > 20 else ''}."
     if len(set(header)) < len(header) or "" in header:
         return lines, f"The header has an empty name, or one name twice, which no table can have. {helper('prepare')} {path} writes a file with names that fit."
     kinds = kinds_of(found, len(header))
@@ -138,12 +157,34 @@ def of_header(fault, statement, body, found, header):
     columns = ", ".join(f"{name_in_script(column)} {kind}" for column, kind in zip(header, kinds))
     says = "The header of the file has to name the same columns as the statement, in the same order, letter by letter."
     if statement:
-        wanted = [column[0].says for column in statement.columns]
         place = fault.numbers[0] - 1
         in_file = f"`{header[place]}`" if place < len(header) else "no column"
         in_script = f"`{wanted[place]}`" if place < len(wanted) else "no column"
         says = f"Column {place + 1} is {in_file} in the file and {in_script} in the statement; all columns of the file have to be named, in its order."
-    return lines, f"{says} This fits: CREATE TABLE {name} ({columns}) FROM {text_in_script(path)};"
+    made = f"{says} This fits: CREATE TABLE {name} ({columns}) FROM {text_in_script(path)};"
+    if len(wanted) == len(header) and not {one.lower() for one in wanted} & {one.lower() for one in header}:
+        made += f" But if the first line is a row, the file has no header: {helper('prepare')} --no-header {path} makes a table that keeps this row."
+    return lines, made
+
+
+def row_in_front(path, found, header, wanted):
+    """What to do where the first line of a file seems to be a row, since it has numbers where the rows have; else nothing."""
+    columns = [[decoded(record.fields[place]) for record in found[1:] if place < len(record.fields)] for place in range(len(header))]
+    numbers = numbers_in_header(header, columns)
+    if not numbers:
+        return ""
+    made = (
+        f"The first line has {listed(numbers)}, where the rows below it have numbers too, so it seems to be a row, and the file to have no header."
+        f" {helper('prepare')} --no-header {path} makes a table that keeps this row."
+    )
+    if len(wanted) == len(header) and all(WORD.fullmatch(name) for name in wanted):
+        made += f" Or put the line `{','.join(wanted)}` in front of it."
+    return made
+
+
+def listed(names):
+    """The first of some names."""
+    return ", ".join(names[:3]) + (" .." if len(names) > 3 else "")
 
 
 def of_cell(cell, name, row, cells, path):
@@ -166,7 +207,7 @@ def of_cell(cell, name, row, cells, path):
     if re.fullmatch(r"[+-]?[\d.]+[eE][+-]?\d+", text):
         return f"{front}`{text}`, with an exponent.{more} {prepare} writes all digits, where it can."
     if re.fullmatch(r"[+-]?\d+", text):
-        return f"{front}{text}, beyond 4,000,000,000,000,000,000.{more} Make the column TEXT, or measure in a greater unit."
+        return f"{front}{text}, beyond {GREATEST_NUMBER:,}.{more} Make the column TEXT, or measure in a greater unit."
     if re.fullmatch(r"\d{4}-\d\d-\d\d.*|\d{1,2}[./]\d{1,2}[./]\d{2,4}", text):
         return f"{front}the date {text}.{more} Make the column TEXT, or let {prepare} make a number of each date."
     if re.search(r"\d", text) and re.fullmatch(r"\W*[\d.,]+\s*\W*|\W*[\d.,]+\s*(EUR|USD|GBP|km|kg|m)", text):
@@ -208,13 +249,13 @@ def bounded(name, score, most, call):
             scores = [score]
         least, greatest = min(scores), max(scores)
         over = f"Over all rows of {call.names[0]} the scores are {least:,} to {greatest:,}."
-        if least >= 0 and greatest <= 4_294_967_295:
+        if least >= 0 and greatest <= GREATEST_SCORE:
             return f"{over} Write MAX {greatest}, or bound the formula: AS MIN({most}, ..)."
         if least < 0:
             return f"{over} A score is 0 at least: bound the formula by MAX(0, ..), or choose it so that the least is 0." + (
                 f" Above, MAX {greatest} would do." if greatest > most else ""
             )
-        return f"{over} Let the formula divide, so that no score is above 4,294,967,295."
+        return f"{over} Let the formula divide, so that no score is above {GREATEST_SCORE:,}."
     if score < 0:
         return "A score is 0 at least: bound the formula by MAX(0, ..)."
     return f"Write a greater MAX in CREATE PREDICATE {name}, or bound the formula: AS MIN({most}, ..)."
@@ -255,6 +296,9 @@ def of_feed_score(fault, paths):
 def of_feed_header(fault):
     """A header that isn't that of a feed."""
     body = read_file(fault.name)
+    odd = of_odd_file(body, f"{helper('prepare')} {fault.name}") if body is not None else ""
+    if odd:
+        return [], odd
     found = list_of_records(body) if body is not None else []
     lines = record_lines(fault.name, body, found[0]) if found else []
     return lines, "A feed has exactly the columns `key` and `score`, in this order, and its header names them so."
@@ -293,8 +337,8 @@ def of_read(fault, parser, script):
     what = "table" if statement else "script" if script == fault.name else "file"
     if fault.variant == "too long":
         if what == "script":
-            return token, "A script has 1,048,576 bytes at most. Split it."
-        return token, f"A table's file has 33,554,432 bytes at most. {helper('prepare')} {fault.name} writes one with the columns that you name."
+            return token, f"A script has {MOST_SCRIPT_BYTES:,} bytes at most. Split it."
+        return token, f"A table's file has {MOST_TABLE_BYTES:,} bytes at most. {helper('prepare')} {fault.name} writes one with the columns that you name."
     if fault.variant == "failed":
         if os.path.isdir(fault.name or "."):
             return token, "This is a folder. Name a file in it."

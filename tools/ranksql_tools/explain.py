@@ -1,9 +1,13 @@
 """Explains a fault line: the line of the script with a caret, the rows of a file, and a sentence that says what to do."""
 
-from ranksql_tools import bind_advice, certificate_advice, command_advice, data_advice, parse_advice
-from ranksql_tools.faults import read_fault
+from ranksql_tools import asking_advice, bind_advice, certificate_advice, command_advice, data_advice, parse_advice
+from ranksql_tools.faults import lines_of, read_asking_fault, read_fault
+from ranksql_tools.file_sorts import of_odd_script
 from ranksql_tools.foreign_advice import foreign_word
+from ranksql_tools.limits import MOST_CURSORS, SCRIPT_WORDS
+from ranksql_tools.program import helper
 from ranksql_tools.script_parse import parse
+from ranksql_tools.script_place import Place, scorings
 from ranksql_tools.script_text import tokens_of, with_caret, without_mark
 
 
@@ -27,10 +31,10 @@ def of_script(fault, body):
     if fault.step == "parse":
         if stopped is None or tokens[stopped.index].start != fault.place:
             stopped_at = next((index for index, other in enumerate(tokens) if other.start >= fault.place), len(tokens) - 1)
-            place = parse_advice.Place(tokens, stopped_at, ("statement",), (), [], 0)
+            place = Place(tokens, stopped_at, ("statement",), (), [], 0, {})
             return parse_advice.of_parse(place, fault.variant) if fault.variant.startswith("Too") else "Something else is expected here."
         start = parser.starts[-1] if parser.starts else 0
-        place = parse_advice.Place(tokens, stopped.index, stopped.trail, stopped.ended, stopped.expected, start)
+        place = Place(tokens, stopped.index, stopped.trail, stopped.ended, stopped.expected, start, scorings(parser))
         if fault.variant == "NotInProfile":
             return foreign_word(place)
         return parse_advice.of_parse(place, fault.variant)
@@ -43,8 +47,11 @@ def explanation(line, words, body):
     """The lines that explain a fault line, where the program was called with these words and the script has these bytes, or
     None where there is no script. An unknown line has no explanation."""
     fault = read_fault(line)
-    if fault is None:
-        return []
+    return explained_fault(fault, words, body) if fault else []
+
+
+def explained_fault(fault, words, body):
+    """The lines that explain a fault."""
     if fault.kind == "usage":
         return [command_advice.of_usage(words)]
     if fault.kind == "write":
@@ -61,9 +68,43 @@ def explanation(line, words, body):
         if body is None:
             return []
         body = without_mark(body)
+        odd = of_odd_script(words[1], body, helper("prepare")) if fault.step in ("", "lex", "parse") else ""
+        if odd:
+            return [odd]
         says = of_script(fault, body)
         return [*with_caret(body, fault.place), *([says] if says else [])]
     return of_data(fault, words, body)
+
+
+def asking_explanation(said, words, body):
+    """The lines that explain what ranksql_ask says on standard error, where it was called with these words and the script has
+    these bytes."""
+    fault = next((fault for line in lines_of(said) for fault in [read_asking_fault(line)] if fault), None)
+    if fault is None:
+        return []
+    if fault.kind == "usage":
+        return [asking_advice.of_usage(words)]
+    if fault.kind == "scores":
+        lines, says = asking_advice.of_scores(fault, words)
+        return [*lines, says]
+    if fault.kind == "ask":
+        return [asking_advice.of_ask(fault, parse(tokens_of(without_mark(body)))[0] if body is not None else None)]
+    if fault.kind == "probe":
+        return [asking_advice.of_probe(fault)]
+    if fault.kind == "write":
+        return [asking_advice.of_write()]
+    if fault.kind == "differs":
+        return [asking_advice.of_differs()]
+    if fault.kind == "lost":
+        return [asking_advice.of_lost(words)]
+    if fault.kind == "answer":
+        return [asking_advice.of_answer(fault)]
+    if fault.kind == "score" and fault.name in words[0].split(","):
+        return [asking_advice.of_score(fault)]
+    ends = asking_advice.of_read(fault, words) if fault.kind == "read" else ""
+    if ends:
+        return [ends]
+    return explained_fault(fault, words[4:], body)
 
 
 def of_data(fault, words, body):
@@ -85,7 +126,7 @@ def of_data(fault, words, body):
     elif fault.kind == "table":
         token, lines, says = data_advice.of_table(fault, parser)
     else:
-        script = words[1] if words[:1] in (["run"], ["plain"], ["ta"], ["view"]) and len(words) > 1 else None
+        script = words[1] if words and words[0] in SCRIPT_WORDS and len(words) > 1 else None
         token, says = data_advice.of_read(fault, parser, script)
     shown = with_caret(body, token.start) if body is not None and token is not None else []
     return [*shown, *lines, says]
@@ -113,7 +154,7 @@ def session_lines(fault, body):
         if word is None:
             continue
         name = statement.name.says
-        faulty = {"NameTaken": word == "DECLARE" and name in opened, "Full": word == "DECLARE" and len(opened) == 64,
+        faulty = {"NameTaken": word == "DECLARE" and name in opened, "Full": word == "DECLARE" and len(opened) == MOST_CURSORS,
                   "Unknown": word != "DECLARE" and name not in opened}[fault.variant]
         if faulty and name == fault.name:
             return with_caret(body, statement.name.start)

@@ -1,4 +1,4 @@
-"""The fault lines of the program."""
+"""The fault lines of the programs."""
 
 import re
 from typing import NamedTuple
@@ -14,7 +14,16 @@ TABLE = re.compile(
 )
 READ = re.compile(r"read: (.*): (missing|too long|failed)", re.DOTALL)
 SESSION = re.compile(r"session: (NameTaken|Unknown|Full) (.*)", re.DOTALL)
-PROBE = re.compile(r"probe: (.*)", re.DOTALL)
+PROBE = re.compile(r"probe: (.*?)(?:: (closed|read|more than \d+ bytes|\".*\" is no whole number))?", re.DOTALL)
+SCORES = re.compile(
+    r"scores: (.*): (NotEnded|InUse|FieldCount record \d+ found \d+|NotAsked record \d+|NotUtf8 record \d+ field \d+|NotScore record \d+"
+    r"|Twice record \d+)",
+    re.DOTALL,
+)
+ASK = re.compile(r"ask: (?:no predicate (.*)|((?:QUESTIONS|ANSWERS|SCORES) (?:is standard \w+|and \w+ are one file)))", re.DOTALL)
+ANSWER = re.compile(r"score: (-?\d+) is not in 0\.\.(\d+): (.*)", re.DOTALL)
+NOT_KEPT = "write: not kept:"
+COUNTS = re.compile(r"calls=\d+ questions=\d+ known=\d+")
 
 
 class Fault(NamedTuple):
@@ -54,9 +63,32 @@ def read_fault(line):
         return Fault("session", variant=found[1], name=found[2])
     found = PROBE.fullmatch(line)
     if found:
-        return Fault("probe", name=found[1])
+        return Fault("probe", variant=found[2] or "", name=found[1])
     if line.startswith("usage: "):
         return Fault("usage")
     if line in ("write", "memory"):
         return Fault(line)
     return None
+
+
+def read_asking_fault(line):
+    """The fault of a line of ranksql_ask, or None where it is none."""
+    found = SCORES.fullmatch(line)
+    if found:
+        variant, *rest = found[2].split()
+        return Fault("scores", variant=variant, name=found[1], numbers=tuple(int(word) for word in rest if word.isdigit()))
+    found = ASK.fullmatch(line)
+    if found:
+        return Fault("ask", variant=found[2] or "no predicate", name=found[1] or "")
+    found = ANSWER.fullmatch(line)
+    if found:
+        return Fault("answer", name=found[3], numbers=(int(found[1]), int(found[2])))
+    if line.startswith(NOT_KEPT + "\n"):
+        return Fault("lost", name=line[len(NOT_KEPT) + 1:])
+    return Fault(line) if line == "differs" else read_fault(line)
+
+
+def lines_of(said):
+    """What ranksql_ask says, without the line of its counts: the whole, and then each line, since a name may have line feeds."""
+    lines = [line for line in said.split("\n") if not COUNTS.fullmatch(line)]
+    return ["\n".join(lines), *lines]

@@ -1,5 +1,7 @@
 """What to do about words that have a meaning in SQL and none in the program's language, and about reserved words as names."""
 
+from ranksql_tools.script_place import spelt
+
 JOINS = ("JOIN", "INNER", "LEFT", "RIGHT", "FULL", "OUTER")
 
 
@@ -141,16 +143,6 @@ def listed_join(place):
     if current:
         target.append(current)
     return ", ".join(map(spelt, tables)), " AND ".join(map(spelt, conditions))
-
-
-def spelt(tokens):
-    """Tokens as one text, with blanks where the script has some."""
-    made = ""
-    for before, token in zip([None, *tokens], tokens):
-        if before is not None and before.end != token.start:
-            made += " "
-        made += token.text
-    return made
 
 
 def ascending(place):

@@ -13,8 +13,9 @@ from .csv_tables import check_names, make_table, open_table
 from .refusal import USAGE, Refusal
 
 ABOUT = """\
-Makes of each FILE, a real CSV or TSV, a table that ranksql reads, and prints the CREATE TABLE for it. The table is written
-to NAME.table.csv in the current folder, after the name of the file. Comments of the script say what was done to each column.
+Makes of each FILE, a real CSV, TSV or JSON, a table that ranksql reads, and prints the CREATE TABLE for it. The table is
+written to NAME.table.csv in the current folder, after the name of the file. Comments of the script say what was done to each
+column.
 A FILE may be packed by gzip, and - is standard input."""
 
 STATUSES = """\
@@ -42,7 +43,7 @@ class Options(NamedTuple):
 def parser():
     words = argparse.ArgumentParser( description=ABOUT, epilog=STATUSES, allow_abbrev=False,
                                     formatter_class=argparse.RawDescriptionHelpFormatter)
-    words.add_argument("files", nargs="+", metavar="FILE", help="a CSV or TSV file")
+    words.add_argument("files", nargs="+", metavar="FILE", help="a CSV or TSV file, or JSON")
     table = words.add_argument_group("the table")
     table.add_argument("--columns", metavar="A,B,..", help="keep these columns, in this order: names of the file or of the script, or numbers")
     table.add_argument("--table", metavar="NAME", help="the name of the table; else it is that of the file")

@@ -17,24 +17,24 @@ def helper(name):
     return f"ranksql-{name}" if is_installed() else f"tools/{name}"
 
 
-def find_program():
-    """The built program: what RANKSQL names, that of the repository, the one installed beside the helpers, or one on the PATH.
-    None where there is none."""
-    named = os.environ.get("RANKSQL")
+def find_program(name="ranksql"):
+    """The built program: what RANKSQL or RANKSQL_ASK names, that of the repository, the one installed beside the helpers, or one
+    on the PATH. None where there is none."""
+    named = os.environ.get(name.upper())
     if named:
         return shutil.which(named)
     if not is_installed():
-        built = os.path.join(TOOLS, os.pardir, "crates", "ranksql", "out", "ranksql")
+        built = os.path.join(TOOLS, os.pardir, "crates", name, "out", name)
         return os.path.normpath(built) if os.access(built, os.X_OK) else None
-    beside = os.path.normpath(os.path.join(TOOLS, os.pardir, os.pardir, "bin", "ranksql"))
-    return beside if os.access(beside, os.X_OK) else shutil.which("ranksql")
+    beside = os.path.normpath(os.path.join(TOOLS, os.pardir, os.pardir, "bin", name))
+    return beside if os.access(beside, os.X_OK) else shutil.which(name)
 
 
-def no_program():
+def no_program(name="ranksql"):
     """What to do where no program is found."""
     if is_installed():
-        return "there is no program ranksql: install it again, or let RANKSQL name it"
-    return "there is no program yet: ./ranksql builds it, or let RANKSQL name one"
+        return f"there is no program {name}: install it again, or let {name.upper()} name it"
+    return f"there is no program yet: ./{name} builds it, or let {name.upper()} name one"
 
 
 def leave(text, status):

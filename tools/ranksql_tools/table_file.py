@@ -3,11 +3,9 @@
 import re
 from typing import NamedTuple
 
+from ranksql_tools.limits import GREATEST_NUMBER, MOST_TABLE_BYTES
 from ranksql_tools.script_parse import FOREIGN, RESERVED
 from ranksql_tools.script_text import without_mark
-
-MOST_BYTES = 33_554_432
-GREATEST = 4_000_000_000_000_000_000
 
 FIELD = re.compile(rb'(?:"((?:[^"]|"")*)(?:"|\Z)([^,\r\n]*)|([^,\r\n]*))(,|\r\n|\r|\n|\Z)')
 BLANK = re.compile(rb"[\r\n]*")
@@ -44,7 +42,7 @@ def records(body):
 
 def is_whole(cell):
     """Whether a cell is a whole number in the range."""
-    return bool(WHOLE.fullmatch(cell)) and abs(int(cell)) <= GREATEST
+    return bool(WHOLE.fullmatch(cell)) and abs(int(cell)) <= GREATEST_NUMBER
 
 
 def read_file(path):
@@ -56,7 +54,7 @@ def read_file(path):
         if not stat.S_ISREG(os.stat(path).st_mode):
             return None
         with open(path, "rb") as file:
-            return without_mark(file.read(MOST_BYTES + 1))
+            return without_mark(file.read(MOST_TABLE_BYTES + 1))
     except (OSError, ValueError):
         return None
 

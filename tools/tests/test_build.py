@@ -1,4 +1,4 @@
-"""Tests of the script `ranksql`, with a small program in the place of the kit's command rt."""
+"""Tests of the scripts `ranksql` and `ranksql_ask`, with a small program in the place of the kit's command rt."""
 
 import os
 import re
@@ -15,34 +15,48 @@ for crate in low high ranksql; do
 done
 {END}
 """
-PROGRAM = "mkdir -p out && printf '#!/bin/sh\\necho \"$@\"\\n' >out/ranksql && chmod +x out/ranksql"
+PROGRAM = """name=${PWD##*/}
+mkdir -p out && printf '#!/bin/sh\\necho %s "$@"\\n' "$name" >"out/$name" && chmod +x "out/$name"
+echo "$*" >words
+"""
 
 
 class Build(unittest.TestCase):
     def setUp(self):
         self.folder = tempfile.mkdtemp()
         self.addCleanup(shutil.rmtree, self.folder)
-        shutil.copy(os.path.join(ROOT, "ranksql"), self.folder)
-        os.makedirs(os.path.join(self.folder, "crates", "ranksql", "src"))
-        os.mkdir(os.path.join(self.folder, "bin"))
-        self.write("crates.txt", "ranksql: high low\nlow:\nhigh: low\nother: low\n")
+        for name in ("ranksql", "ranksql_ask", "tools/build_and_run"):
+            os.makedirs(os.path.dirname(self.path(name)), exist_ok=True)
+            shutil.copy(os.path.join(ROOT, name), self.path(name))
+        for crate in ("low", "high", "ask", "other", "ranksql", "ranksql_ask"):
+            os.makedirs(self.path(f"crates/{crate}/src"))
+            self.write(f"crates/{crate}/src/lib.rt", "")
+        os.mkdir(self.path("bin"))
+        self.write("crates.txt", "ranksql: high low\nlow:\nhigh: low\nother: low\nask:\nranksql_ask: low ask # last\n")
+
+    def path(self, name):
+        return os.path.join(self.folder, name)
 
     def write(self, name, text):
-        path = os.path.join(self.folder, name)
-        with open(path, "w", encoding="utf-8") as file:
+        with open(self.path(name), "w", encoding="utf-8") as file:
             file.write(text)
-        os.chmod(path, 0o755)
+        os.chmod(self.path(name), 0o755)
 
-    def run_script(self):
-        path = os.path.join(self.folder, "bin") + os.pathsep + os.environ["PATH"]
-        ended = subprocess.run([os.path.join(self.folder, "ranksql"), "a", "b c"], capture_output=True, text=True, timeout=60,
+    def is_newer(self, name):
+        """Makes a file that was written later than all others."""
+        later = max(os.stat(os.path.join(path, file)).st_mtime for path, _, files in os.walk(self.folder) for file in files) + 2
+        os.utime(self.path(name), (later, later))
+
+    def run_script(self, name="ranksql", *words):
+        path = self.path("bin") + os.pathsep + os.environ["PATH"]
+        ended = subprocess.run([self.path(name), *(words or ("a", "b c"))], capture_output=True, text=True, timeout=60,
                                env={**os.environ, "PATH": path})
         return ended.returncode, ended.stdout, ended.stderr
 
     def test_a_first_build_says_what_takes_how_long(self):
         self.write("bin/rt", RT.replace("{END}", PROGRAM))
         status, out, said = self.run_script()
-        self.assertEqual((status, out), (0, "a b c\n"))
+        self.assertEqual((status, out), (0, "ranksql a b c\n"))
         self.assertIn("there is no program yet", said)
         self.assertIn("3 crates are proved, one after another", said)
         self.assertIn("unproved", said)
@@ -52,13 +66,49 @@ class Build(unittest.TestCase):
         self.assertTrue(crates[1][2].startswith("; low took "))
         self.assertRegex(said, r"all 3 crates are proved; ranksql took \d+ s")
         # What is built is only run.
-        self.assertEqual(self.run_script(), (0, "a b c\n", ""))
+        self.assertEqual(self.run_script(), (0, "ranksql a b c\n", ""))
+
+    def test_the_program_that_asks(self):
+        self.write("bin/rt", RT.replace("{END}", PROGRAM))
+        status, out, said = self.run_script("ranksql_ask")
+        self.assertEqual((status, out), (0, "ranksql_ask a b c\n"))
+        self.assertIn("ranksql_ask: 3 crates are proved", said)
+        with open(self.path("crates/ranksql_ask/words"), encoding="utf-8") as file:
+            self.assertEqual(file.read(), "run -- fits out/trial.scores /dev/null out/trial.answers plain out/trial.sql\n")
+        self.assertEqual(self.run_script("ranksql_ask"), (0, "ranksql_ask a b c\n", ""))
+        self.assertFalse(os.path.exists(self.path("crates/ranksql/out")))
+
+    def test_a_build_without_a_run(self):
+        self.write("bin/rt", RT.replace("{END}", PROGRAM))
+        status, out, said = self.run_script("tools/build_and_run", "--build", "ranksql_ask")
+        self.assertEqual((status, out), (0, ""))
+        self.assertIn("is built first", said)
+        self.assertEqual(self.run_script("tools/build_and_run", "--build", "ranksql_ask"), (0, "", ""))
+
+    def test_a_source_that_is_newer(self):
+        self.write("bin/rt", RT.replace("{END}", PROGRAM))
+        self.run_script()
+        for name, is_of_it in (("low/src/lib.rt", True), ("high/src/lib.rt", True), ("other/src/lib.rt", False), ("ask/src/lib.rt", False)):
+            with self.subTest(name):
+                self.is_newer(f"crates/{name}")
+                status, out, said = self.run_script()
+                self.assertEqual((status, out), (0, "ranksql a b c\n"))
+                self.assertEqual("the program is older than its sources, and is built first" in said, is_of_it, said)
+                self.is_newer("crates/ranksql/out/ranksql")
+
+    def test_through_links(self):
+        self.write("bin/rt", RT.replace("{END}", PROGRAM))
+        os.symlink("../ranksql_ask", self.path("bin/other"))
+        os.symlink("bin/other", self.path("link"))
+        status, out, _ = self.run_script("link")
+        self.assertEqual((status, out), (0, "ranksql_ask a b c\n"))
 
     def test_a_build_that_fails(self):
         self.write("bin/rt", RT.replace("{END}", "exit 1"))
-        status, out, said = self.run_script()
-        self.assertEqual((status, out), (70, ""))
-        self.assertIn("the build failed", said)
+        for name in ("ranksql", "ranksql_ask"):
+            status, out, said = self.run_script(name)
+            self.assertEqual((status, out), (70, ""))
+            self.assertIn(f"{name}: the build failed", said)
 
 
 if __name__ == "__main__":

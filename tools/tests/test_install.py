@@ -1,4 +1,4 @@
-"""Tests of ./install, with a small program in the place of ranksql."""
+"""Tests of ./install, with small programs in the place of ranksql and ranksql_ask."""
 
 import os
 import shutil
@@ -15,9 +15,11 @@ class Install(unittest.TestCase):
     def setUp(self):
         self.folder = tempfile.mkdtemp()
         self.addCleanup(shutil.rmtree, self.folder)
-        self.program = os.path.join(self.folder, "program")
+        self.program, self.asking = os.path.join(self.folder, "program"), os.path.join(self.folder, "asking")
         self.write(self.program, '#!/bin/sh\necho "usage: of $*" >&2\nexit 2\n')
-        os.chmod(self.program, 0o755)
+        self.write(self.asking, "#!/bin/sh\nexit 5\n")
+        for program in (self.program, self.asking):
+            os.chmod(program, 0o755)
         self.prefix = os.path.join(self.folder, "a prefix's $PLACE")
 
     @staticmethod
@@ -27,7 +29,7 @@ class Install(unittest.TestCase):
 
     def install(self, *words, **environment):
         ended = subprocess.run([INSTALL, *words], cwd=self.folder, capture_output=True, text=True, timeout=60,
-                               env={**os.environ, "RANKSQL": self.program, **environment})
+                               env={**os.environ, "RANKSQL": self.program, "RANKSQL_ASK": self.asking, **environment})
         return ended.returncode, ended.stdout, ended.stderr
 
     def files(self):
@@ -41,9 +43,13 @@ class Install(unittest.TestCase):
         self.assertIn("ranksql-why", out)
         self.assertIn("not among the folders of PATH", out)
         files = self.files()
-        for name in ("bin/ranksql", "bin/ranksql-why", "lib/ranksql/why", "share/man/man1/ranksql.1"):
+        self.assertIn("ranksql(1) and ranksql_ask(1)", out)
+        for name in ("bin/ranksql", "bin/ranksql_ask", "bin/ranksql-why", "bin/ranksql-prepare", "bin/ranksql-advise", "lib/ranksql/why",
+                     "share/man/man1/ranksql.1", "share/man/man1/ranksql_ask.1"):
             self.assertIn(name, files)
-        self.assertTrue(os.stat(os.path.join(self.prefix, "bin/ranksql")).st_mode & stat.S_IXUSR)
+        for name, status in (("ranksql", 2), ("ranksql_ask", 5)):
+            self.assertTrue(os.stat(os.path.join(self.prefix, "bin", name)).st_mode & stat.S_IXUSR)
+            self.assertEqual(subprocess.run([os.path.join(self.prefix, "bin", name)], capture_output=True).returncode, status)
         self.assertEqual([name for name in files if ".ranksql." in name], [])
         status, out, said = self.install("--remove", self.prefix)
         self.assertEqual((status, said), (0, ""))
@@ -118,10 +124,12 @@ class Install(unittest.TestCase):
             self.assertIn("usage: ./install", said)
 
     def test_no_program(self):
-        status, _, said = self.install(self.prefix, RANKSQL="/no/such/program")
-        self.assertEqual(status, 1)
-        self.assertIn("there is no program", said)
-        self.assertFalse(os.path.exists(self.prefix))
+        for variable in ("RANKSQL", "RANKSQL_ASK"):
+            for named in ("/no/such/program", self.folder):
+                status, _, said = self.install(self.prefix, **{variable: named})
+                self.assertEqual(status, 1)
+                self.assertIn(f"there is no program {named}", said)
+                self.assertFalse(os.path.exists(self.prefix))
 
 
 if __name__ == "__main__":

@@ -191,6 +191,36 @@ class Bytes(InFolder):
         self.assertNotIn(b"Traceback", ended.stderr)
 
 
+class Json(InFolder):
+    """JSON files, whose objects are the rows."""
+
+    WANTED = [["name", "price"], ["Ann, x", "15"], ["Bob", "-10"]]
+
+    def test_rows(self):
+        for text in ('[{"name": "Ann, x", "price": 1.5}, {"name": "Bob", "price": null}]', '[\n {"name": "Ann, x", "price": 1.5},\n {"name": "Bob"}\n]\n',
+                     '{"name": "Ann, x", "price": 1.5}\n{"name": "Bob"}\n', '{"count": 2, "rows": [{"name": "Ann, x", "price": 1.5}, {"name": "Bob"}]}'):
+            for encoding in ("utf-8", "utf-8-sig", "utf-16"):
+                with self.subTest(text, encoding=encoding):
+                    self.assertEqual(self.WANTED, self.table(text.encode(encoding)))
+        self.put("t.json", '[{"a": 1}]')
+        script, _ = self.prepare("t.json")
+        self.assertIn("-- t.json: 1 row of 1 column, read as JSON.\nCREATE TABLE t (", script)
+
+    def test_cells(self):
+        values = '[{"a": true, "b": 12345678901234567890123, "c": 1e3, "d": "\\u00e9\\n\\"", "e": {"x": [1, 2.5]}}, {"a": false, "e": [], "f": ""}]'
+        self.assertEqual([["a", "b", "c", "d", "e", "f"], ["1", "12345678901234567890123", "1000", 'é\n"', '{"x": [1, 2.5]}', ""], ["0", "", "-1", "", "[]", ""]],
+                         self.table(values))
+
+    def test_refused(self):
+        for text, sentence in (("[1, 2]", "no list of objects"), ('[{"a": 1}, 2]', "no list of objects"), ('{"a": 1', "can't be read"), ("[[1, 2], [3, 4]]", "no list of objects"),
+                               ("[{}]", "no names"), ("[" * 100_000, "JSON"), ('{"a": 1}\n[2]\n', "its lines aren't objects")):
+            with self.subTest(text[:12]):
+                self.refused(text, 6, sentence)
+
+    def test_a_header_in_brackets(self):
+        self.assertEqual([["id", "name"], ["1", "x"]], self.table("[id],[name]\n1,x\n"))
+
+
 class Reading(InFolder):
     """How records, cells and columns are read, and what the words of the command change."""
 
@@ -211,6 +241,32 @@ class Reading(InFolder):
     def test_row_names(self):
         self.assertEqual([["row", "a", "b"], ["one", "1", "2"], ["two", "3", "4"]], self.table("a b\none 1 2\ntwo 3 4\n", "--delimiter", "space"))
         self.assertEqual([["a", "b"], ["1", "2"], ["3", "4"]], self.table("a,b\n1,2,\n3,4,\n"))
+
+    def test_blanks(self):
+        for data in ("name price\nAnn 1\nBob 2\n", "name   price\nAnn    1\nBob   2\nCy and Di 3\n", '"a b" c\n"x y" 1\n', "a b\none 1 2\ntwo 3 4\n"):
+            with self.subTest(data):
+                self.put("t.csv", data)
+                script, told = self.prepare("t.csv")
+                self.assertIn("-- There is one column, and most rows have as many words as its name or one more: --delimiter space", script)
+                self.assertIn("--delimiter space", told)
+                self.assertNotIn("--delimiter space", "".join(self.prepare("t.csv", "--delimiter", ";")))
+        for data in ("name\nAnn Lee\nBob Ray\n", "first name\nAnn\nBob\nMary Ann\n", "a b\n", "a b,c\nx y,1\n"):
+            with self.subTest(data):
+                self.put("t.csv", data)
+                self.assertNotIn("--delimiter", "".join(self.prepare("t.csv")))
+
+    def test_a_header_that_is_a_row(self):
+        for data, numbers in (("Ann,120\nBob,95\n", "'120'"), ("1.5,x,7\n2.5,y,8\n", "'1.5', '7'"), ("2010,2011\n1,2\n", "'2010', '2011'"), ("-5,a\nNA,b\n3,c\n", "'-5'")):
+            with self.subTest(data):
+                self.put("t.csv", data)
+                script, told = self.prepare("t.csv")
+                self.assertIn("-- The header has numbers where the rows have: %s; if it is a row, --no-header keeps it." % numbers, script)
+                self.assertIn("--no-header", told)
+                self.assertNotIn("--no-header", "".join(self.prepare("t.csv", "--no-header")))
+        for data in ("city,2010,2011\nBath,1,2\n", "name,7\nAnn,x\n", "name,120\n", "a,b\n1,2\n"):
+            with self.subTest(data):
+                self.put("t.csv", data)
+                self.assertNotIn("--no-header", "".join(self.prepare("t.csv")))
 
     def test_no_header(self):
         self.assertEqual([["column_1", "column_2"], ["1", "x"], ["2", "y"]], self.table("1,x\n2,y\n", "--no-header"))

@@ -1,5 +1,6 @@
 """Tests of `why`: the mistakes of mistakes.txt, each run through the program where it is built, and odd scripts and streams."""
 
+import gzip
 import os
 import re
 import shutil
@@ -13,6 +14,7 @@ TOOLS = os.path.dirname(HERE)
 ROOT = os.path.dirname(TOOLS)
 sys.path.insert(0, TOOLS)
 
+from ranksql_tools import limits  # noqa: E402
 from ranksql_tools.explain import explanation  # noqa: E402
 from ranksql_tools.faults import read_fault  # noqa: E402
 from ranksql_tools.program import find_program  # noqa: E402
@@ -31,7 +33,7 @@ class Case:
         given = dict(zip(parts[1::2], parts[2::2]))
         self.script = bytes_of(front + parts[0])
         self.words = given.pop("words", "plain script.sql").split()
-        self.why = given.pop("why", "")
+        self.why = re.sub(r"^USAGE$", limits.USAGE, given.pop("why", ""), flags=re.MULTILINE)
         self.files = {name: bytes_of(content) for name, content in given.items()}
 
     def write(self, folder):
@@ -194,6 +196,21 @@ class Streams(unittest.TestCase):
                 self.assertIn(says, said)
                 self.assertNotIn(b"Traceback", said)
                 self.assertNotIn(b"no explanation", said)
+
+    @NEEDS_PROGRAM
+    def test_files_that_are_no_script(self):
+        table = b"This is a table's file, and here stands a script. tools/prepare "
+        for name, content, says in (
+            ("a b.csv", "name,city\nOtto,Köln\n".encode(), table + b"a b.csv >a b.sql makes"), ("t.TSV", b"a\tb\n1\t2\n", table + b"t.TSV >t.sql makes"),
+            ("t", b'[{"a": 1}]\n', table + b"t >t.sql makes"), ("t.csv", "a,b\n1,2\n".encode("utf-16"), table + b"t.csv >t.sql makes"),
+            ("s.gz", gzip.compress(self.GOOD), b"The script is packed by gzip, and has to be plain text: gunzip -c s.gz >NEW."),
+        ):
+            with self.subTest(name):
+                self.write(name, content)
+                status, out, said = run([WHY, name], self.folder)
+                self.assertEqual((status, out), (5, b""))
+                self.assertEqual(said.count(b"\n"), 2)
+                self.assertIn(says, said)
 
     @NEEDS_PROGRAM
     def test_files_that_cannot_be_read(self):

@@ -1,6 +1,5 @@
 -- The indexes of a block that can be scanned.
-use Rattle.std.proofs.Common.{ℕ, zero, suc, ◌≡◌, List, [], ◌∷◌, refl}
-use Rattle.std.specs.Prelude.{slice_index}
+use Rattle.std.proofs.Common.{ℕ, List, [], ◌∷◌}
 use Rattle.std.specs.List.{AllByRecursion}
 use Rattle.rs_order.proofs.EachFacts.{each-slice_get}
 use Rattle.rs_expr.specs.Scoring.{Answering}
@@ -14,15 +13,3 @@ held-indexes answer catalogue (index ∷ indexes) held = (
   λ found there. (each-slice_get (IndexHolds answer catalogue) catalogue.indexes index found held there).holds,
   held-indexes answer catalogue indexes held,
 )
-
--- no list had an access at first
-pub none-at : (n : ℕ) → slice_index (0 ∷ 0 ∷ 0 ∷ 0 ∷ 0 ∷ 0 ∷ 0 ∷ 0 ∷ []) n ≡ 0
-none-at zero = refl
-none-at (suc zero) = refl
-none-at (suc (suc zero)) = refl
-none-at (suc (suc (suc zero))) = refl
-none-at (suc (suc (suc (suc zero)))) = refl
-none-at (suc (suc (suc (suc (suc zero))))) = refl
-none-at (suc (suc (suc (suc (suc (suc zero)))))) = refl
-none-at (suc (suc (suc (suc (suc (suc (suc zero))))))) = refl
-none-at (suc (suc (suc (suc (suc (suc (suc (suc n)))))))) = refl

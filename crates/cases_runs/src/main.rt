@@ -19,7 +19,8 @@
 //! Bytes and words have the escapes of `cases_lines`. In a line `more` `\#` is the number of the time, from 01.
 //!
 //! Of a run is told how it ended, the bytes on standard output (`out`) and on standard error (`err`), the calls of the
-//! scorer (`calls`) and the names that were fetched (`fetched`), in their order. What there is none of is left out.
+//! scorer (`calls`) and the names that were fetched (`fetched`), in their order. What there is none of is left out,
+//! and the usage line is told by name.
 #![tactic(auto)]
 
 mod fakes;

@@ -3,7 +3,7 @@
 use crate::fakes::Fakes;
 use cases_lines::{print_call, print_escaped};
 use rs_expr::Call;
-use rs_run::Status;
+use rs_run::{RunFault, Status};
 use rs_value::{Memory, Text};
 use std::alloc::Global;
 
@@ -11,7 +11,7 @@ use std::alloc::Global;
 pub fn tell_run(alloc: Global, status: Status, fakes: &Fakes) -> Result<String, Memory> {
     let mut told = format!(in alloc; "  {status:?}\n")?;
     tell_bytes("out", fakes.out.bytes(), &mut told)?;
-    tell_bytes("err", fakes.err.bytes(), &mut told)?;
+    tell_error(alloc, fakes.err.bytes(), &mut told)?;
     tell_calls(fakes.scorer.calls(), &mut told)?;
     tell_names(fakes.files.fetched_names(), &mut told)?;
     Ok(told)
@@ -28,6 +28,17 @@ fn tell_bytes(name: &str, bytes: &[u8], told: &mut String) -> Result<(), Memory>
     print_escaped(bytes, told)?;
     told.push_str("\n")?;
     Ok(())
+}
+
+/// Tells the bytes that were put on standard error. The usage line is told by name.
+fn tell_error(alloc: Global, bytes: &[u8], told: &mut String) -> Result<(), Memory> {
+    let fault = RunFault::Usage;
+    let usage = fault.line(alloc)?;
+    if bytes == usage.as_bytes() {
+        told.push_str("  err is the usage line\n")?;
+        return Ok(());
+    }
+    tell_bytes("err", bytes, told)
 }
 
 /// Tells the calls of the scorer: of each the predicate and the arguments.

@@ -1,107 +1,111 @@
--- How the program ends: its exit status, and its lines on standard error.
-use Rattle.std.specs.Prelude.{ℕ, ◌≡◌, ◌≢◌, ◌+◌, ◌-◌, ◌^◌, ◌⊎◌, List, [], ◌∷◌, ◌++◌, Option, Some, None, codes, if◌then◌else◌, length, min}
-use Rattle.std.specs.Fmt.{decimal}
-use Rattle.std.specs.List.{concat}
+-- How the program ends: its exit status, what it put, and its lines on standard error.
+use Rattle.std.specs.Prelude.{ℕ, ◌≡◌, ◌⊎◌, List, [], ◌∷◌, Option, Some, None, Ok, Err, length}
 use Rattle.rs_value.specs.Outside.{Keeps, Outside}
+use Rattle.rs_events.specs.Events.{finds_in}
+use Rattle.rs_run.specs.Naming.{Looks}
 use Rattle.rs_run.specs.Outcome.{PutsLine, PutsNothing}
 use Rattle.rs_run.specs.Status.{exit_status_of}
 use Rattle.rs_outside.specs.Files.{FilesTold}
-use Rattle.rs_run.specs.Words.{Form}
+use Rattle.rs_run.specs.Words.{Form, RunScript}
 use Rattle.rs_scores.specs.Known.{Known}
-use Rattle.rs_ask.specs.Asking.{AskingState, Ends, PutsBytes, StopsAfter}
-use Rattle.rs_ask.specs.Stops.{StopsAt}
+use Rattle.rs_ask.specs.Asking.{AskingState, ChannelState, Ends, StopsAfter}
 use Rattle.rs_ask.specs.declared.asked.Asked.{Asked}
+use Rattle.rs_ask.specs.declared.channel.Channel.{Channel}
 use Rattle.rs_ask.specs.declared.pass.Pass.{Pass}
 use Rattle.rs_ask.specs.declared.stop.Stop.{Stop}
-use Rattle.rs_ask.specs.declared.stop.Stop.TheVariants.{Differs, Memory, Write}
-use Rattle.ranksql_ask.specs.AskFaults.{ask_line, ask_status}
+use Rattle.rs_prepare.specs.Preparing.{EndWords, Openings, Prepares}
+use Rattle.rs_prepare.specs.declared.fault.PrepareFault.{PrepareFault}
+use Rattle.rs_prepare.specs.declared.ready.Prepared.{Prepared}
+use Rattle.ranksql_ask.specs.AskFaults as fault
+use Rattle.ranksql_ask.specs.AskFaults.{Refusal, ask_line, ask_status, unready}
+use Rattle.ranksql_ask.specs.Lines.{end_lines, end_status, memory_line, stop_lines, stop_status}
 use Rattle.ranksql_ask.specs.Passes.{IsPass}
-use Rattle.ranksql_ask.specs.declared.fault.AskFault.{AskFault}
-use Rattle.ranksql_ask.specs.declared.fault.AskFault.TheVariants.{Usage}
+use Rattle.ranksql_ask.specs.Words.{Request}
 
--- what standard error tells, and its faults
-abbrev pub ErrorLines : Type 0
-ErrorLines = Outside (List (List ℕ))
-
--- the line of want of memory
-abbrev pub memory_line : List ℕ
-memory_line = codes "memory\n"
+-- what a sink tells, and its faults
+abbrev pub Lines : Type 0
+Lines = Outside (List (List ℕ))
 
 -- the line of want of memory was put, or there was no memory for that either
-abbrev pub TellsMemory : ErrorLines → ErrorLines → Type 0
+abbrev pub TellsMemory : Lines → Lines → Type 0
 TellsMemory old new = PutsNothing old new ⊎ PutsLine memory_line old new
 
 -- these lines were put one after another, and the program ends with this status; or there was no memory for one of them, and it tells that, and ends with 1
-abbrev pub Tells : List (List ℕ) → ℕ → ℕ → ErrorLines → ErrorLines → Type 0
+abbrev pub Tells : List (List ℕ) → ℕ → ℕ → Lines → Lines → Type 0
 Tells [] status answer old new = (answer ≡ status) × (new ≡ old)
 Tells (line ∷ rest) status answer old new =
-    ((middle : ErrorLines) × Keeps old middle × PutsLine line old middle × Tells rest status answer middle new) ⊎ ((answer ≡ 1) × TellsMemory old new)
-
--- the line of the last run, which may be empty; a run that lacked memory may not have kept its line
-abbrev pub pass_line : Pass → List ℕ
-pass_line pass = if pass.lacked_memory then memory_line else concat pass.err.pieces
-
--- how many questions were asked: those that were answered, and one that has no answer
-abbrev pub unanswered_in : Option (List (List ℕ)) → ℕ
-unanswered_in None = 0
-unanswered_in (Some question) = 1
-
-abbrev pub question_count : Asked → ℕ
-question_count asked = min (asked.answers + unanswered_in asked.pass.missing) (2 ^ 64 - 1)
-
--- the line with the counts, where so many scores were known before
-abbrev pub counts_line : Asked → ℕ → List ℕ
-counts_line asked known =
-    codes "calls=" ++ decimal asked.pass.calls ++ codes " questions=" ++ decimal (question_count asked) ++ codes " known=" ++ decimal known ++ codes "\n"
-
--- the lines behind the last run
-abbrev pub end_lines : Asked → ℕ → List (List ℕ)
-end_lines asked known = pass_line asked.pass ∷ counts_line asked known ∷ []
-
--- the line and the status of what stopped it
-abbrev pub stop_line : Stop → List ℕ
-stop_line Differs = codes "differs\n"
-stop_line Write = codes "write\n"
-stop_line Memory = memory_line
-
-abbrev pub stop_status : Stop → ℕ
-stop_status Differs = 10
-stop_status Write = 4
-stop_status Memory = 1
+    ((middle : Lines) × Keeps old middle × PutsLine line old middle × Tells rest status answer middle new) ⊎ ((answer ≡ 1) × TellsMemory old new)
 
 -- it asked and ran, and told how that ended or what stopped it
-abbrev pub Obeys : {R : Type 0} → (R → Known → Pass → R → Type 0) → ℕ → R → Known → R → Known → AskingState → AskingState → ErrorLines → ErrorLines → Type 0
+abbrev pub Obeys : {R : Type 0} → (R → Known → Pass → R → Lines → Lines → Type 0) → ℕ → R → Known → R → Known → AskingState → AskingState → Lines → Lines → Type 0
 Obeys ran answer old known new knows before after err told =
-    ((asked : Asked) × Ends ran asked old known new knows before after × Tells (end_lines asked (length known.scores)) asked.pass.status answer err told)
-    ⊎ ((stop : Stop) × StopsAfter ran stop old known new knows before after × Tells (stop_line stop ∷ []) (stop_status stop) answer err told)
+    ((asked : Asked) × Ends ran asked old known new knows before after × Tells (end_lines asked (length known.scores)) (end_status asked) answer err told)
+    ⊎ ((stop : Stop) × StopsAfter ran stop old known new knows before after × Tells (stop_lines stop) (stop_status stop) answer err told)
 
--- nothing was put on standard output, and this fault was told
-abbrev pub Refuses : AskFault → ℕ → Outside (List (List ℕ)) → Outside (List (List ℕ)) → ErrorLines → ErrorLines → Type 0
-Refuses fault answer out rows err told = (rows ≡ out) × Tells (ask_line fault ∷ []) (exit_status_of (ask_status fault)) answer err told
+-- nothing was put on standard output, and this was told
+abbrev pub Refuses : Refusal → ℕ → Lines → Lines → Lines → Lines → Type 0
+Refuses refusal answer out rows err told = (rows ≡ out) × Tells (ask_line refusal ∷ []) (exit_status_of (ask_status refusal)) answer err told
 
--- what a run of words of this form left, over some scores and some files
-abbrev pub IsPassOf : Form → Pass → Type 0
-IsPassOf form pass = (known : Known) × (old : Outside FilesTold) × (new : Outside FilesTold) × IsPass form known pass old new
+-- what is run again and again: words of this form, over these files
+pub record Runner : Type 0 where
+  pub form : Form
+  pub files : Outside FilesTold
 
--- all that was put on standard output is what a run of words of this form put, and its end was told
-pub record Runs (form : Form) (answer : ℕ) (out rows : Outside (List (List ℕ))) (err told : ErrorLines) : Type 0 where
-  pub asked : Asked
-  pub known : ℕ
-  pub pass : IsPassOf form asked.pass
-  pub put : PutsBytes (concat asked.pass.out.pieces) out rows
-  pub tells : Tells (end_lines asked known) asked.pass.status answer err told
+-- one run of it
+abbrev pub RunsOnce : Runner → Known → Pass → Runner → Lines → Lines → Type 0
+RunsOnce old known pass new rows puts = IsPass old.form known pass old.files new.files rows puts × (new.form ≡ old.form)
 
--- what had been put on standard output of a run of words of this form is as the stop says, and what stopped it was told
-pub record Stops (form : Form) (answer : ℕ) (out rows : Outside (List (List ℕ))) (err told : ErrorLines) : Type 0 where
-  pub stop : Stop
-  pub run : Pass
-  pub pass : IsPassOf form run
-  pub put : (bytes : List ℕ) × PutsBytes bytes out rows × StopsAt stop run.lacked_memory bytes (concat run.out.pieces)
-  pub tells : Tells (stop_line stop ∷ []) (stop_status stop) answer err told
+-- the name of the script that words of this form run
+abbrev pub script_of : Form → List ℕ
+script_of (RunScript script evaluating) = script
+script_of _ = []
 
--- words of no form are refused. Other words are refused for what is outside, or runs are made; these end with one of them, or are stopped behind one
-abbrev pub Commands : Option Form → ℕ → Outside (List (List ℕ)) → Outside (List (List ℕ)) → ErrorLines → ErrorLines → Type 0
-Commands None answer out rows err told = Refuses Usage answer out rows err told
-Commands (Some form) answer out rows err told =
-    ((fault : AskFault) × (fault ≢ Usage) × Refuses fault answer out rows err told)
-    ⊎ (Runs form answer out rows err told ⊎ Stops form answer out rows err told)
+-- what a command works with beside its script: the object that opens files, the files that known scores are read from, and where rows and lines go
+pub record Work (H : Type 0) : Type 0 where
+  pub opens : H
+  pub kept : Outside FilesTold
+  pub out : Lines
+  pub err : Lines
+
+-- nothing was opened, no known scores were read, and this was told
+abbrev pub RefusesFirst : {H : Type 0} → Refusal → ℕ → Work H → Work H → Type 0
+RefusesFirst refusal answer old new = (new.opens ≡ old.opens) × (new.kept ≡ old.kept) × Refuses refusal answer old.out new.out old.err new.err
+
+-- what stood ready asked and ran: the known scores are those of their file, and the channel has the files that the words name
+pub record AsksBy {H Q A K R : Type 0} (outside : Openings H Q A K) (state : Channel Q A K → ChannelState) (ran : R → Known → Pass → R → Lines → Lines → Type 0) (names : List (List ℕ)) (ends : EndWords) (answer : ℕ) (runs ended : R) (old new : Work H) : Type 0 where
+  pub prepared : Prepared Q A K
+  pub ready : Prepares outside names ends (Ok prepared) old.kept new.kept
+  pub knows : Known
+  pub left : ChannelState
+  pub obeys : Obeys ran answer runs prepared.known ended knows
+      (record { channel = state prepared.channel; out = old.out }) (record { channel = left; out = new.out }) old.err new.err
+
+-- something did not stand ready, which was told
+pub record IsUnready {H Q A K : Type 0} (outside : Openings H Q A K) (names : List (List ℕ)) (ends : EndWords) (answer : ℕ) (old new : Work H) : Type 0 where
+  pub fault : PrepareFault
+  pub prepares : Prepares outside names ends (Err fault) old.kept new.kept
+  pub refuses : Refuses (unready ends fault) answer old.out new.out old.err new.err
+
+-- all was made ready, and asked and ran; or something did not stand ready
+abbrev pub Readies : {H Q A K R : Type 0} → Openings H Q A K → (Channel Q A K → ChannelState) → (R → Known → Pass → R → Lines → Lines → Type 0) → List (List ℕ) → EndWords → ℕ → R → R → Work H → Work H → Type 0
+Readies outside state ran names ends answer runs ended old new =
+    IsUnready outside names ends answer old new ⊎ AsksBy outside state ran names ends answer runs ended old new
+
+-- what was done where the script makes no predicate of this name, or of each name one
+abbrev pub DoesBy : {H Q A K : Type 0} → Openings H Q A K → (Channel Q A K → ChannelState) → Request → Outside FilesTold → ℕ → Work H → Work H → Option (List ℕ) → Type 0
+DoesBy outside state request seen answer old new (Some name) = RefusesFirst (fault.NoPredicate name) answer old new
+DoesBy outside state request seen answer old new None =
+    (ended : Runner) × Readies outside state RunsOnce request.names request.ends answer (record { form = request.form; files = seen }) ended old new
+
+-- it was looked for the predicates in the script: where it makes none of one of the names that is refused, and nothing is run; else all is made ready, and runs are made. A script that has no statements, or can't be
+-- fetched, is run, which tells why
+pub record Does {H Q A K : Type 0} (outside : Openings H Q A K) (state : Channel Q A K → ChannelState) (request : Request) (files : Outside FilesTold) (answer : ℕ) (old new : Work H) : Type 0 where
+  pub name : Option (List ℕ)
+  pub seen : Outside FilesTold
+  pub looks : Looks (finds_in files.told) (script_of request.form) request.names name files seen
+  pub does : DoesBy outside state request seen answer old new name
+
+-- words of no form are refused by the usage line, and other words never. Want of memory before the first run may be told at any time
+abbrev pub Commands : {H Q A K : Type 0} → Openings H Q A K → (Channel Q A K → ChannelState) → Option Request → Outside FilesTold → ℕ → Work H → Work H → Type 0
+Commands outside state None files answer old new = RefusesFirst fault.Usage answer old new ⊎ RefusesFirst fault.Memory answer old new
+Commands outside state (Some request) files answer old new = Does outside state request files answer old new ⊎ RefusesFirst fault.Memory answer old new

@@ -1,2 +1,3 @@
 -- Definitions that serve the contracts of private functions alone.
 pub mod Asking
+pub mod Runners

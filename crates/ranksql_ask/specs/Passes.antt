@@ -30,15 +30,16 @@ abbrev pub is_memory : Status → Bool
 is_memory status.Memory = true
 is_memory _ = false
 
--- one run of what words of this form ask for over what is known, into memory: its status, what it put, how many calls it made, and the question of its last call, where that one failed and its score isn't known
-pub record IsPass (form : Form) (known : Known) (pass : Pass) (old new : Outside FilesTold) : Type 0 where
+-- one run of what words of this form ask for over what is known, whose rows go to this sink: its status, its line, how many calls it made, and the question of its last call, where that one failed and its score isn't known, with the greatest score of its predicate
+pub record IsPass (form : Form) (known : Known) (pass : Pass) (old new : Outside FilesTold) (rows puts : Outside (List (List ℕ))) : Type 0 where
   pub status : Status
   pub scorer : TableScorerState
   pub number : pass.status ≡ exit_status_of status
   pub lacked : pass.lacked_memory ≡ is_memory status
   pub ran : FormRunsTo (Some form) status
-      (environment old (table_state (new_scorer known)) (sink_state no_pieces) (sink_state no_pieces))
-      (environment new (table_state scorer) (sink_state pass.out) (sink_state pass.err))
+      (environment old (table_state (new_scorer known)) rows (sink_state no_pieces))
+      (environment new (table_state scorer) puts (sink_state pass.err))
   pub lawful : IsTableScorer scorer
   pub calls : pass.calls ≡ scorer.count
   pub missing : pass.missing ≡ missing_in known status scorer.missing
+  pub most : pass.most ≡ scorer.most

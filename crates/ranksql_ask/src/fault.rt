@@ -1,65 +1,117 @@
 ghost use Rattle.std.specs.Prelude.{◌≡◌, IfOk};
 ghost use Rattle.std.specs.String.{string_bytes};
-ghost use Rattle.ranksql_ask.specs.AskFaults.{ask_line, ask_status, known_text};
+ghost use Rattle.rs_prepare.specs.Preparing.{end_words};
+ghost use Rattle.ranksql_ask.specs.AskFaults.{Scores, ask_line, ask_status, end_text, known_text, one_file_line, read_line, refusal, stream_text, unopened, unready};
 
+use rs_outside::FetchFault;
+use rs_prepare::{End, EndNames, OpenFault, PrepareFault, Stream};
 use rs_run::{Fault, RunFault, Status};
-use rs_scores::KnownFault;
+use rs_scores::{KnownFault, ScoresFault};
 use rs_value::{Memory, Text};
 use std::alloc::Global;
 
 /// Why nothing is run.
-#[derive(Debug, Drop)]
-pub enum AskFault {
+#[derive(Clone, Copy, Debug)]
+pub enum AskFault<'a> {
     /// The words are of no form.
     Usage,
-    /// The file of known scores couldn't be read, or one of the others not be opened.
-    Outside(RunFault),
-    /// The file of this name holds no known scores.
-    Scores(Text, KnownFault),
+    Memory,
+    /// The script makes no predicate of this name.
+    NoPredicate(&'a Text),
+    /// The file of this name can't be read.
+    Read(&'a Text, FetchFault),
+    /// The file of questions or that of scores can't be written to.
+    Write,
+    /// The file of this name holds something that is no known score.
+    Scores(&'a Text, KnownFault),
+    /// Another run has locked the file of known scores of this name.
+    InUse(&'a Text),
+    /// The file of this end is one that is in use already.
+    OneFile(End, Stream),
 }
 
-impl From<Fault> for AskFault {
-    ghost use Rattle.std.specs.Prelude.{◌≡◌};
-    ghost use Rattle.rs_run.specs.declared.fault.RunFault.TheVariants.{Statement};
-    ghost use Rattle.ranksql_ask.specs.declared.fault.AskFault.TheVariants.{Outside};
-
-    ghost from_gives = { λ why fault. fault ≡ Outside (Statement why) };
-
-    fn from(why: Fault) -> AskFault {
-        AskFault::Outside(RunFault::Statement(why))
+impl<'a> AskFault<'a> {
+    /// The fault of what doesn't stand ready.
+    pub fn of(ends: EndNames<'a>, why: PrepareFault) -> AskFault<'a>
+        ensures { refusal result ≡ unready (end_words ends.entry) why }
+    {
+        match why {
+            PrepareFault::Unopened(end, why) => AskFault::of_unopened(ends, end, why),
+            PrepareFault::Unread(ScoresFault::Memory) => AskFault::Memory,
+            PrepareFault::Unread(ScoresFault::Fetch(why)) => AskFault::Read(ends.scores, why),
+            PrepareFault::Unread(ScoresFault::Refused(why)) => AskFault::Scores(ends.scores, why),
+        }
     }
-}
 
-impl AskFault {
+    /// The fault of an end that isn't opened.
+    fn of_unopened(ends: EndNames<'a>, end: End, why: OpenFault) -> AskFault<'a>
+        ensures { refusal result ≡ unopened (end_words ends.entry) end why }
+    {
+        match (why, end) {
+            (OpenFault::Memory, _) => AskFault::Memory,
+            (OpenFault::OneFile(stream), end) => AskFault::OneFile(end, stream),
+            (OpenFault::InUse, End::Scores) => AskFault::InUse(ends.scores),
+            (OpenFault::Missing, End::Answers) => AskFault::Read(ends.answers, FetchFault::Missing),
+            (_, End::Answers) => AskFault::Read(ends.answers, FetchFault::Failed),
+            (_, _) => AskFault::Write,
+        }
+    }
+
     /// How the program ends then.
     pub fn status(&self) -> Status
-        ensures { result ≡ ask_status self.now }
+        ensures { result ≡ ask_status (refusal self.now) }
     {
         match self {
             AskFault::Usage => Status::Usage,
-            AskFault::Outside(fault) => fault.status(),
-            AskFault::Scores(..) => Status::Table,
+            AskFault::Memory => Status::Memory,
+            AskFault::NoPredicate(_) => Status::Script,
+            AskFault::Read(..) => Status::Read,
+            AskFault::Write | AskFault::OneFile(..) => Status::Write,
+            AskFault::Scores(..) | AskFault::InUse(_) => Status::Table,
         }
     }
 
     /// The line of it for standard error.
+    ///
+    /// # Errors
+    ///
+    /// - `Memory`: at any call.
     pub fn line(&self, alloc: Global) -> Result<String, Memory>
-        ensures { IfOk result (λ line. string_bytes line ≡ ask_line self.now) }
+        ensures { IfOk result (λ line. string_bytes line ≡ ask_line (refusal self.now)) }
     {
         match self {
             AskFault::Usage => Ok(String::from_str(
                 alloc,
                 "usage: ranksql_ask NAMES SCORES QUESTIONS ANSWERS run SCRIPT SEED, or plain SCRIPT behind ANSWERS\n",
             )?),
-            AskFault::Outside(fault) => fault.line(alloc),
-            AskFault::Scores(name, fault) => scores_line(alloc, name, fault),
+            AskFault::Memory => Ok(String::from_str(alloc, "memory\n")?),
+            AskFault::NoPredicate(name) => {
+                let name = name.as_str();
+                Ok(format!(in alloc; "ask: no predicate {name}\n")?)
+            }
+            AskFault::Read(name, why) => read_line(alloc, name, *why),
+            AskFault::Write => Ok(String::from_str(alloc, "write\n")?),
+            AskFault::Scores(name, why) => scores_line(alloc, name, why),
+            AskFault::InUse(name) => {
+                let name = name.as_str();
+                Ok(format!(in alloc; "scores: {name}: InUse\n")?)
+            }
+            AskFault::OneFile(end, stream) => one_file_line(alloc, *end, *stream),
         }
     }
 }
 
+/// The line of a file that isn't read.
+fn read_line(alloc: Global, name: &Text, why: FetchFault) -> Result<String, Memory>
+    ensures { IfOk result (λ line. string_bytes line ≡ read_line name.now why) }
+{
+    let name = name.copy()?;
+    RunFault::Statement(Fault::Read { name, why }).line(alloc)
+}
+
 /// The line of a file of known scores that is refused.
 fn scores_line(alloc: Global, name: &Text, why: &KnownFault) -> Result<String, Memory>
-    ensures { IfOk result (λ line. string_bytes line ≡ ask_line (AskFault.Scores name.now why.now)) }
+    ensures { IfOk result (λ line. string_bytes line ≡ ask_line (Scores name.now why.now)) }
 {
     let why = known_text(alloc, why)?;
     let name = name.as_str();
@@ -83,5 +135,37 @@ fn known_text(alloc: Global, why: &KnownFault) -> Result<String, Memory>
         KnownFault::NotScore { number } => Ok(format!(in alloc; "NotScore record {number}")?),
         KnownFault::Twice { number } => Ok(format!(in alloc; "Twice record {number}")?),
         KnownFault::Memory => Ok(String::from_str(alloc, "memory")?),
+    }
+}
+
+/// The line of a file that is in use already.
+fn one_file_line(alloc: Global, end: End, stream: Stream) -> Result<String, Memory>
+    ensures { IfOk result (λ line. string_bytes line ≡ one_file_line end stream) }
+{
+    let end = end_text(end);
+    let stream = stream_text(stream);
+    Ok(format!(in alloc; "ask: {end} {stream}\n")?)
+}
+
+/// The word of an end.
+fn end_text(end: End) -> &'static str
+    ensures { result.now ≡ end_text end }
+{
+    match end {
+        End::Questions => "QUESTIONS",
+        End::Answers => "ANSWERS",
+        End::Scores => "SCORES",
+    }
+}
+
+/// What a file is.
+fn stream_text(stream: Stream) -> &'static str
+    ensures { result.now ≡ stream_text stream }
+{
+    match stream {
+        Stream::Output => "is standard output",
+        Stream::Error => "is standard error",
+        Stream::Scores => "and SCORES are one file",
+        Stream::Questions => "and QUESTIONS are one file",
     }
 }

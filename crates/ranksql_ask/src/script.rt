@@ -6,7 +6,7 @@ ghost use Rattle.ranksql_ask.specs.Passes.{IsPass, is_memory, missing_in};
 
 use crate::words::Asking;
 use rs_ask::{Pass, Rerun};
-use rs_outside::{Files, MemSink};
+use rs_outside::{Files, MemSink, Sink};
 use rs_run::{Readers, Status, run_file};
 use rs_scores::{KnownFiles, KnownScores, KnownTables, Question, TableScorer};
 use std::alloc::Global;
@@ -41,16 +41,15 @@ fn is_memory(status: Status) -> bool
 }
 
 impl<'a, F: Files> Rerun for Script<'a, F> {
-    ghost ran = { λ old known pass new. IsPass (form_of_asking old.asking) known pass (known_state (F.state old.files.files)) (known_state (F.state new.files.files))
+    ghost ran = { λ old known pass new rows puts. IsPass (form_of_asking old.asking) known pass (known_state (F.state old.files.files)) (known_state (F.state new.files.files)) rows puts
         × (new.asking ≡ old.asking) };
 
-    fn rerun(&mut self, alloc: Global, known: &KnownScores) -> Pass
-        ensures ran { IsPass (form_of_asking self.old.asking) known.now result (known_state (F.state self.old.files.files)) (known_state (F.state self.new.files.files))
+    fn rerun<O: Sink>(&mut self, alloc: Global, known: &KnownScores, out: &mut O) -> Pass
+        ensures ran { IsPass (form_of_asking self.old.asking) known.now result (known_state (F.state self.old.files.files)) (known_state (F.state self.new.files.files)) (O.state out.old) (O.state out.new)
             × (self.new.asking ≡ self.old.asking) }
         ensures missing { IfSome result.missing (λ question. score_of question known.now ≡ None) }
     {
         let mut scorer = TableScorer::new(alloc, known);
-        let mut out = MemSink::new(alloc);
         let mut err = MemSink::new(alloc);
         let status = run_file(
             alloc,
@@ -59,18 +58,19 @@ impl<'a, F: Files> Rerun for Script<'a, F> {
             &mut self.readers,
             &mut self.files,
             &mut scorer,
-            &mut out,
+            out,
             &mut err,
         );
         let calls = scorer.count();
+        let most = scorer.most();
         let missing = missing_in(known, status, scorer.into_missing());
         Pass {
-            out,
             err,
             status: status.number(),
             lacked_memory: is_memory(status),
             calls,
             missing,
+            most,
         }
     }
 }

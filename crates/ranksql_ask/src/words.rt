@@ -1,10 +1,13 @@
-ghost use Rattle.std.specs.Prelude.{◌≡◌, option_map};
+ghost use Rattle.std.specs.Prelude.{◌≡◌, IfOk, option_map};
 ghost use Rattle.rs_run.specs.Words.{plain_form};
-ghost use Rattle.ranksql_ask.specs.Words.{asking_form, guessing_form};
-ghost use Rattle.ranksql_ask.specs.Parts.Asking.{form_of_asking};
+ghost use Rattle.ranksql_ask.specs.Words.{asking_form, guessing_form, request_of};
+ghost use Rattle.ranksql_ask.specs.Parts.Asking.{form_of_asking, request_made};
 
+use rs_prepare::EndNames;
 use rs_run::{Evaluating, Sampling, number_word};
-use rs_value::Text;
+use rs_scores::names_in;
+use rs_value::{Memory, Text};
+use std::alloc::Global;
 
 /// The script that is run, and how its queries are evaluated.
 #[derive(Clone, Copy)]
@@ -13,8 +16,47 @@ pub struct Asking<'a> {
     pub evaluating: Evaluating,
 }
 
+/// What all words ask for: the predicates that are asked for, the files, and what is run.
+#[derive(Drop)]
+pub struct Request<'a> {
+    pub names: Vec<Text>,
+    pub ends: EndNames<'a>,
+    pub asking: Asking<'a>,
+}
+
+/// What words ask for, where they are `NAMES SCORES QUESTIONS ANSWERS` and then `plain SCRIPT` or `run SCRIPT SEED`, and NAMES are names of
+/// predicates.
+///
+/// # Errors
+///
+/// - `None`: exactly where the words are none of these.
+/// - `Memory`: at any call.
+pub fn request_of(alloc: Global, words: &[Text]) -> Result<Option<Request<'_>>, Memory>
+    ensures { IfOk result (λ request. option_map request_made request ≡ request_of words.now) }
+{
+    let [names, scores, questions, answers, rest @ ..] = words else {
+        return Ok(None);
+    };
+    let Some(asking) = asking_of(rest) else {
+        return Ok(None);
+    };
+    let Some(names) = names_in(alloc, names)? else {
+        return Ok(None);
+    };
+    let ends = EndNames {
+        scores,
+        questions,
+        answers,
+    };
+    Ok(Some(Request {
+        names,
+        ends,
+        asking,
+    }))
+}
+
 /// What words ask for, where they are `plain SCRIPT` or `run SCRIPT SEED`. Under `run` plans are chosen by guesses.
-pub fn asking_of(words: &[Text]) -> Option<Asking<'_>>
+fn asking_of(words: &[Text]) -> Option<Asking<'_>>
     ensures { option_map form_of_asking result ≡ asking_form words.now }
 {
     if let Some(asking) = plain_asking(words) {

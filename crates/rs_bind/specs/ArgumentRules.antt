@@ -22,6 +22,7 @@ pub record IsWithin (least most : ℕ) (written : ℤ) (n : ℕ) : Type 0 where
   pub no_less : least ≤ n
   pub no_more : n ≤ most
 
+-- a number that lies outside them
 abbrev pub IsOutside : ℕ → ℕ → ℤ → Type 0
 IsOutside least most written = (n : ℕ) → IsWithin least most written n → ⊥
 

@@ -87,6 +87,7 @@ conjuncts_in sources x = do
   few ← few_parts (parts_of_and x)
   conjuncts_of sources (parts_of_and x)
 
+-- the conjuncts of WHERE; none where it isn't written
 abbrev pub filter_of : List Source → Option Expression → Result (List ConjunctDef) BindFault
 filter_of sources None = Ok []
 filter_of sources (Some x) = conjuncts_in sources x

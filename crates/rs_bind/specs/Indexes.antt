@@ -83,7 +83,8 @@ columns_in catalogue table = unwrap_or (option_map (λ t. t.table.schema) (slice
 abbrev pub params_in : CatalogDef → ℕ → List Kind
 params_in catalogue predicate = unwrap_or (option_map (λ p. p.params) (slice_get catalogue.predicates predicate)) []
 
--- the table, then the predicate and its arguments, which are those of a term over the table under its own name
+-- the table, then the predicate and its arguments, which are those of a term over the table under its own name: their
+-- number, each of them, and that one is a column
 abbrev pub index_def_of : CatalogDef → Command → Result IndexDef BindFault
 index_def_of catalogue (CreateRankIndex name table predicate args at) = do
   t ← or_fault (At NoTable table.at) (number_named what.Table table.text catalogue)

@@ -9,6 +9,11 @@ use rs_typing::BindFault;
 pub const MOST_ROWS: u32 = 1_000_000;
 
 /// The number in FETCH, from 0 to 1,000,000 (`LimitOf`). It takes no memory.
+///
+/// # Errors
+///
+/// - `At`: with `LimitOf` and the place, exactly where the number lies outside this range.
+/// - `Memory`: never.
 pub fn bind_count(count: i64, at: Span) -> Result<u32, BindFault>
     ensures { result ≡ count_of (count, at) }
 {

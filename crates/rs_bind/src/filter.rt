@@ -47,7 +47,8 @@ pub(crate) fn bind_filter(
     }
 }
 
-/// The conjuncts of a condition.
+/// The conjuncts of a condition. The whole condition is typed first, and then each part once more over the columns that it names alone;
+/// the second time nothing can fail but memory.
 fn conjuncts_in(alloc: Global, sources: &Sources, node: &Node) -> Result<List<Conjunct>, BindFault>
     ensures gives { Gives BindFault.Memory (conjuncts_in (sources_of sources.now.catalog.now sources.now.from.now) (expression_of node.now)) result }
     ensures narrow { IfOk result (λ made. AllByRecursion IsNarrow made) }

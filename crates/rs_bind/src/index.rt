@@ -15,8 +15,13 @@ use rs_typing::{BindFault, Why};
 use std::alloc::Global;
 
 /// The rank index of a CREATE RANK INDEX statement. The rules are looked at in this order: the table (`NoTable`); the
-/// predicate (`NoPredicate`); the number of the arguments (`WrongCount`); the arguments from left to right (`NoColumn`, then
-/// `WrongKind`); and that one of them is a column (`ConstantTerm`).
+/// predicate (`NoPredicate`); the number of the arguments (`WrongCount`); the arguments from left to right (`NoColumn`,
+/// then `WrongKind`); and that one of them is a column (`ConstantTerm`). What is answered fits the catalogue.
+///
+/// # Errors
+///
+/// - `At`: exactly where the statement breaks a rule, with the first one in this order and its place.
+/// - `Memory`: at any call, in place of each answer.
 pub fn bind_index(
     alloc: Global,
     catalog: &Catalog,

@@ -14,9 +14,15 @@ use rs_typing::{BindFault, Why};
 use rs_value::{Kind, List, Text, Value};
 use std::alloc::Global;
 
-/// The number of the table of an INSERT statement, and the rows that join it. The rules are looked at in this order: the
-/// table (`NoTable`); then the rows from left to right, at each one whether the table has room for it (`LimitOf`), the
-/// number of its cells (`WrongCount`), and its cells from left to right (`WrongKind`).
+/// The number of the table of an INSERT statement, and the rows that join it. The rules are looked at in this order:
+/// the table (`NoTable`); then the rows from left to right, at each one whether the table has room for it (`LimitOf`),
+/// the number of its cells (`WrongCount`), and its cells from left to right (`WrongKind`). What is answered may join
+/// it.
+///
+/// # Errors
+///
+/// - `At`: exactly where the statement breaks a rule, with the first one in this order and its place.
+/// - `Memory`: at any call, in place of each answer.
 pub fn bind_insert(
     alloc: Global,
     catalog: &Catalog,

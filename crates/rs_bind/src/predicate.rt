@@ -26,6 +26,11 @@ const USUAL_COST: u16 = 1;
 /// The predicate of a CREATE PREDICATE statement. The rules are looked at in this order: the parameters from left to right,
 /// at each its number (`LimitOf` for the ninth) and then its name (`NameTwice`); MAX (`LimitOf`); COST (`LimitOf`); the
 /// formula, its parts first, which has to be a number (`WrongKind`).
+///
+/// # Errors
+///
+/// - `At`: exactly where the statement breaks a rule, with the first one in this order and its place.
+/// - `Memory`: at any call, in place of each answer.
 pub fn bind_predicate(alloc: Global, statement: &Statement) -> Result<Predicate, BindFault>
     requires form { IsCreatePredicate (command_of statement.now) }
     requires written { IsWritten (command_of statement.now) }

@@ -26,10 +26,16 @@ use rs_typing::{BindFault, Why};
 use rs_value::{Kind, List, SetOp, Text};
 use std::alloc::Global;
 
-/// The query of a SELECT. The rules are looked at in this order: those of the left block, of the right block, that their
-/// output columns agree (`SetColumnsDiffer`), those of the terms from left to right, and that of LIMIT. In a block they are
-/// those of the FROM entries from left to right, of the condition, and of the output columns from left to right. The maxima of the
-/// terms are their tops, as the rank indexes are now.
+/// The query of a SELECT. The rules are looked at in this order: those of the left block, of the right block, that
+/// their output columns agree (`SetColumnsDiffer`), those of the terms from left to right, and that of LIMIT. In a
+/// block they are those of the FROM entries from left to right, of the condition, and of the output columns from left
+/// to right. The maxima of the terms are their tops, as the rank indexes are now. What is answered is well formed over
+/// the catalogue.
+///
+/// # Errors
+///
+/// - `At`: exactly where the query breaks a rule, with the first one in this order and its place.
+/// - `Memory`: at any call, in place of each answer.
 pub fn bind(alloc: Global, catalog: &Catalog, select: &Select) -> Result<Query, BindFault>
     requires written { IsWrittenQuery (query_of select.now) }
     ensures gives { Gives BindFault.Memory (bound_query catalog.now (query_of select.now)) result }

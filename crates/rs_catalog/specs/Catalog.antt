@@ -20,6 +20,7 @@ pub record RankIndex : Type 0 where
   pub def : IndexDef
   pub ranking : List ScoredRow
 
+-- what a session has made: three lists, each in the order of making
 pub record CatalogDef : Type 0 where
   pub tables : List NamedTable
   pub predicates : List PredicateDef
@@ -67,6 +68,7 @@ room_in name most names =
 abbrev pub room_for : What → List ℕ → CatalogDef → Result (Unit {0}) RoomFault
 room_for what name catalogue = room_in name (most_of what) (names_of what catalogue)
 
+-- a catalogue with a table more, behind the others; with a predicate more; and with an index more
 abbrev pub with_table : List ℕ → Relation → CatalogDef → CatalogDef
 with_table name table catalogue = record catalogue { tables = catalogue.tables ++ record { name = name; table = table } ∷ [] }
 

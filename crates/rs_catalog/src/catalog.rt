@@ -82,6 +82,11 @@ impl Catalog {
 
     /// Whether one more of this name may join a list: not where the list has the name, and not where it is full. It takes
     /// no memory.
+    ///
+    /// # Errors
+    ///
+    /// - `NameTaken`: exactly where the list has the name.
+    /// - `Full`: exactly where it hasn't, and has 16 tables, 64 predicates or 64 indexes.
     pub fn room(&self, what: What, name: &Text) -> Result<(), RoomFault>
         ensures { result ≡ room_for what name.now self.now }
     {
@@ -93,6 +98,10 @@ impl Catalog {
     }
 
     /// The number of the one of this name in a list, counted from 0. It takes no memory.
+    ///
+    /// # Errors
+    ///
+    /// - `None`: exactly where the list doesn't have the name.
     pub fn find(&self, what: What, name: &Text) -> Option<u8>
         ensures value { result ≡ number_named what name.now self.now }
         ensures within { IfSome result (λ number. number < length (names_of what self.now)) }
@@ -104,7 +113,11 @@ impl Catalog {
         }
     }
 
-    /// Makes a table the last one. Where there is no memory, nothing joins.
+    /// Makes a table the last one.
+    ///
+    /// # Errors
+    ///
+    /// - `Memory`: at any call; the catalogue stays as it was.
     pub fn add_table(&mut self, name: Text, table: Table) -> Result<(), Memory>
         requires { room_for what.Table name self.old ≡ Ok tt }
         ensures ok { OnOk result (self.new ≡ with_table name table self.old) }
@@ -115,7 +128,11 @@ impl Catalog {
         put_last(&mut self.tables, name, table)
     }
 
-    /// Makes a predicate the last one. Where there is no memory, nothing joins.
+    /// Makes a predicate the last one.
+    ///
+    /// # Errors
+    ///
+    /// - `Memory`: at any call; the catalogue stays as it was.
     pub fn add_predicate(&mut self, predicate: Predicate) -> Result<(), Memory>
         requires { room_for what.Predicate predicate.name self.old ≡ Ok tt }
         ensures ok { OnOk result (self.new ≡ with_predicate predicate self.old) }
@@ -128,6 +145,14 @@ impl Catalog {
 
     /// Makes a rank index the last one. The scorer is called once a row, in the order of the rows, up to the first fault.
     /// After a fault nothing joins.
+    ///
+    /// # Errors
+    ///
+    /// - `BadScore`: exactly at the first call whose answer lies outside 0 to the predicate's MAX, unless `Probe` or
+    ///   `Memory` came before.
+    /// - `Probe`: only where the last call that was made failed; the scorer's count of faults rose.
+    /// - `Memory`: at any time, but not behind an answer outside that range. Then the calls that were made are the
+    ///   first ones, in their order.
     pub fn add_index<S: Scorer>(
         &mut self,
         alloc: Global,
@@ -156,7 +181,15 @@ impl Catalog {
 
     /// Puts rows behind those of a table, and at their places in each rank index of the table. For each such index, in the
     /// order of making, the scorer is called once a new row, in the order of the rows, up to the first fault. After a fault
-    /// nothing has joined.
+    /// nothing has joined. In an index they stand behind the rows of the same score that it had.
+    ///
+    /// # Errors
+    ///
+    /// - `BadScore`: exactly at the first call whose answer lies outside 0 to the predicate's MAX, unless `Probe` or
+    ///   `Memory` came before.
+    /// - `Probe`: only where the last call that was made failed; the scorer's count of faults rose.
+    /// - `Memory`: at any time, but not behind an answer outside that range. Then the calls that were made are the
+    ///   first ones, in their order.
     pub fn add_rows<S: Scorer>(
         &mut self,
         alloc: Global,
@@ -220,8 +253,8 @@ impl Catalog {
         Ok(Some(grow_index(alloc, number, index, predicate, rows, scorer)?))
     }
 
-    /// No table has more rows than a table may have, and no predicate a greater maximum. It computes nothing; it is called for
-    /// its contract.
+    /// No table has more than 131,072 rows, and no predicate a MAX above 4,294,967,295. It computes nothing; it is called for its
+    /// contract.
     pub fn limits_hold(&self)
         ensures rows { AllByRecursion (λ t. length t.table.rows ≤ most_rows) self.now.tables }
         ensures scores { AllByRecursion (λ p. p.max ≤ greatest_max) self.now.predicates }
@@ -231,6 +264,10 @@ impl Catalog {
     }
 
     /// How many rows each table has, in the order of making.
+    ///
+    /// # Errors
+    ///
+    /// - `Memory`: at any call.
     pub fn sizes(&self, alloc: Global) -> Result<Vec<u32>, Memory>
         ensures { IfOk result (λ sizes. sizes.items ≡ sizes_in self.now) }
     {
@@ -279,6 +316,10 @@ impl Catalog {
 
     /// The number of the first index of this table and predicate and these arguments, where a column of FROM entry
     /// `entry` is read as that of entry 1. It takes no memory.
+    ///
+    /// # Errors
+    ///
+    /// - `None`: exactly where there is no index of this table and predicate and these arguments.
     pub fn index_for(&self, table: u8, predicate: u8, args: &[BoundArg], entry: u8) -> Option<u8>
         ensures value { result ≡ index_of table predicate args.now entry self.now }
         ensures within { IfSome result (λ number. number < length self.now.indexes) }
@@ -315,6 +356,10 @@ impl Catalog {
 
     /// The score and the row of the first entry of an index that comes behind `after`, of those whose rows are among the first
     /// `rows` of the table. Without `after` it is the first such entry. Rows that join later don't move it. It takes no memory.
+    ///
+    /// # Errors
+    ///
+    /// - `None`: exactly where no entry of these rows comes behind `after`.
     pub fn index_after(&self, index: u8, after: Option<(u32, u32)>, rows: u32) -> Option<(u32, u32)>
         requires { index < length self.now.indexes }
         ensures { result ≡ entry_after after rows (ranking_at self.now index) }

@@ -4,7 +4,8 @@ use std::alloc::AllocFailed;
 /// Why rows didn't join a table. Indexes count from 0.
 #[derive(Clone, Copy, Debug, PartialEq, Eq)]
 pub enum GrowFault {
-    /// At an index a new row's number is no score: it doesn't lie in 0..max.
+    /// The number that was answered for a new row at an index is no score: it lies outside 0 to `max`. Rows count from 1, and those
+    /// that the table had come first.
     BadScore {
         index: u8,
         row: u32,

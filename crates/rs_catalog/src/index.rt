@@ -65,7 +65,7 @@ fn are_those_of_index(args: &[BoundArg], entry: u8, others: &[BoundArg]) -> bool
 /// Why a rank index was not made.
 #[derive(Clone, Copy, Debug, PartialEq, Eq)]
 pub enum IndexFault {
-    /// The row's number is no score: it doesn't lie in 0..max.
+    /// The number that was answered for the row is no score: it lies outside 0 to `max`. Rows count from 1.
     BadScore { row: u32, got: i128, max: u32 },
     /// A call of the scorer failed.
     Probe,

@@ -89,6 +89,11 @@ fn score_row<S: Scorer>(
 }
 
 /// A row with the number that it got as its score, where that is one.
+///
+/// # Errors
+///
+/// - `BadScore`: exactly where the number lies outside 0 to `max`.
+/// - `Probe`, `Memory`: never.
 pub fn score_for(max: u32, row: u32, got: i128) -> Result<ScoredRow, IndexFault>
     ensures { result ≡ score_for max row got }
 {

@@ -57,8 +57,8 @@ impl<'a> Snapshot<'a> {
         }
     }
 
-    /// No table has more rows than a table may have, and no predicate a greater maximum. It computes nothing; it is called for
-    /// its contract.
+    /// No table has more than 131,072 rows, and no predicate a MAX above 4,294,967,295. It computes nothing; it is called for its
+    /// contract.
     pub fn limits_hold(&self)
         ensures rows { AllByRecursion (λ t. length t.table.rows ≤ most_rows) self.now.tables }
         ensures scores { AllByRecursion (λ p. p.max ≤ greatest_max) self.now.predicates }
@@ -109,6 +109,10 @@ impl<'a> Snapshot<'a> {
 
     /// The score and the row of the first entry of an index that comes behind `after`; without `after` of its first entry. It
     /// takes no memory.
+    ///
+    /// # Errors
+    ///
+    /// - `None`: exactly where no entry comes behind `after`.
     pub fn index_after(&self, index: u8, after: Option<(u32, u32)>) -> Option<(u32, u32)>
         requires { index < length self.now.indexes }
         ensures { result ≡ first_entry (filter (is_behind after) (ranking_at self.now index)) }

@@ -16,7 +16,8 @@ ghost use Rattle.rs_catalog.specs.declared.growth.GrowFault.{GrowFault};
 ghost use Rattle.rs_catalog.specs.declared.index.IndexDef.{IndexDef};
 
 /// A catalogue whose indexes hold a scorer's answers is its own snapshot at the sizes of its tables. What joins it later, a table, a
-/// predicate or an index, joins the snapshot behind all that is there, a table without rows; and rows that join its tables change nothing.
+/// predicate or an index, joins the snapshot behind all that is there, a table without rows. A call that adds rows to a table by that
+/// scorer changes nothing of the snapshot, whether they joined or not; and the tables go on to have its rows.
 pub fn snapshots_stay()
     ensures start { (answer : Answering) (catalogue : CatalogDef) → IndexesHold answer catalogue → snapshot (sizes_in catalogue) catalogue ≡ catalogue }
     ensures rows_start { (catalogue : CatalogDef) → HaveRows (sizes_in catalogue) catalogue.tables }

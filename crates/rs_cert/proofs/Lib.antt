@@ -11,6 +11,7 @@ pub mod InsideFacts
 pub mod NumeralFacts
 pub mod PairFacts
 pub mod ReadingFacts
+pub mod RefusalFacts
 pub mod RowFacts
 pub mod SoundFacts
 pub mod WorkedRecords

@@ -62,7 +62,7 @@ no_later a b h = grind (arith, nat_tests)
 abbrev pub score_before : List FeedRow → Option ℕ
 score_before rows = option_map (λ (row : FeedRow). row.score) (last_of rows)
 
-at-push : (rows : List FeedRow) (row : FeedRow) → slice_get (rows ++ row ∷ []) (length rows) ≡ Some row
+pub at-push : (rows : List FeedRow) (row : FeedRow) → slice_get (rows ++ row ∷ []) (length rows) ≡ Some row
 at-push [] row = refl
 at-push (x ∷ xs) row = at-push xs row
 

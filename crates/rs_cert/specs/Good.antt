@@ -63,7 +63,9 @@ abbrev pub RightIsReached : Cert → Type 0
 RightIsReached cert = cert.right.ended ≡ false
     → IsReached cert 1 (slice_get cert.left.rows 0) (length cert.right.rows) (last_of cert.right.rows)
 
--- the certificate proves its answer
+-- the certificate proves its answer: scores fall on both sides; the pairs are the first answers of the rows, and no
+-- more than are wanted; where they are fewer they are all, and no pair can come; and no row that wasn't drawn can make
+-- a pair that comes before the last one
 pub record IsGood (cert : Cert) : Type 0 where
   pub falls : FallsOnBothSides cert
   pub pairs : HasFirstPairs cert

@@ -32,6 +32,7 @@ answers lefts rights = stable (λ pair. pair.sum) (pairs_from 1 lefts rights)
 abbrev pub numbers_cmp : Pair → Pair → Ordering
 numbers_cmp = then_cmp (on (λ pair. pair.left) nat_cmp) (on (λ pair. pair.right) nat_cmp)
 
+-- the greater sum comes first, at equal sums the lesser left number, and then the lesser right one
 abbrev pub pair_cmp : Pair → Pair → Ordering
 pair_cmp = then_cmp (on (λ pair. pair.sum) (flip_args nat_cmp)) numbers_cmp
 

@@ -68,6 +68,7 @@ named_entry name first second =
     else if bytes_eq name (codes "pair") then pair_with (number_up_to greatest_number first) (number_up_to greatest_number second)
     else None
 
+-- the same of all fields of a record: a row or the end of a side, or a pair
 abbrev pub entry_of : Fields → Option Entry
 entry_of [] = None
 entry_of (name ∷ []) = None

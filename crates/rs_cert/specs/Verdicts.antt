@@ -11,6 +11,8 @@ pub data RisesOn (cert : Cert) : ℕ → ℕ → Type 0 where
   on_left : (row : ℕ) → RisesFirstAt cert.left.rows row → RisesOn cert 1 row
   on_right : (row : ℕ) → Falls cert.left.rows → RisesFirstAt cert.right.rows row → RisesOn cert 2 row
 
+-- the certificate is good, or this is the first part that fails: falling scores, the pairs, their number, the left
+-- side, the right side
 abbrev pub IsVerdict : Cert → Verdict → Type 0
 IsVerdict cert Yes = IsGood cert
 IsVerdict cert (Order side row) = RisesOn cert side row

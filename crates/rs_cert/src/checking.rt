@@ -15,9 +15,16 @@ use rs_feed::FeedRow;
 use rs_value::Memory;
 use std::alloc::Global;
 
-/// Whether a certificate proves its answer, or the first part of it that fails. Its time grows with the rows and the pairs of the
-/// certificate, and not with the pairs that its rows have: of a left row it looks at no more of them than come before the last pair,
-/// and one.
+/// Whether a certificate proves its answer, or the first part of it that fails: a row of a side whose score rises,
+/// pairs that aren't the first ones or are too many, too few pairs, a left row that could still make an earlier pair,
+/// or a right one.
+///
+/// Its time grows with the rows and the pairs of the certificate, and not with the pairs that its rows have: of a left
+/// row it looks at no more of them than come before the last pair, and one.
+///
+/// # Errors
+///
+/// - `Memory`: at any call, in place of the verdict.
 pub fn check(alloc: Global, cert: &Cert) -> Result<Verdict, Memory>
     requires left { length cert.now.left.rows < 2 ^ 32 }
     requires right { length cert.now.right.rows < 2 ^ 32 }

@@ -14,7 +14,14 @@ use csv::{ByteRecord, Reader, ReaderBuilder};
 use rs_value::Memory;
 use std::alloc::Global;
 
-/// The certificate whose records these bytes are, behind one byte order mark, or the first record that no certificate has there.
+/// The certificate whose records these bytes are, behind one byte order mark, or the first record that no certificate
+/// has there. There is no limit of bytes, only fewer records than 2^32, so that each has a number.
+///
+/// # Errors
+///
+/// - `Form`: exactly where the records are those of no certificate, with the first one that no certificate has there,
+///   and 1 where there is none.
+/// - `Memory`: at any call, in place of each answer.
 pub fn read_cert(alloc: Global, bytes: &[u8]) -> Result<Cert, CertFault>
     requires { length (records_of bytes.now) < 2 ^ 32 }
     ensures { IsRead (records_of bytes.now) result }

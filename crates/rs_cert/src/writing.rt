@@ -12,7 +12,11 @@ use rs_feed::FeedRow;
 use rs_value::Memory;
 use std::alloc::Global;
 
-/// The bytes of a certificate, which are read back as it.
+/// The bytes of a certificate, its records one behind another as `csv` writes them, which are read back as it.
+///
+/// # Errors
+///
+/// - `Memory`: at any call.
 pub fn write(alloc: Global, cert: &Cert) -> Result<Vec<u8>, Memory>
     requires wanted { cert.now.k ≤ most_wanted }
     requires few { HasFewRows cert.now }

@@ -12,9 +12,15 @@ use rs_feed_join::FeedJoin;
 use rs_value::{List, Memory};
 use std::alloc::Global;
 
-/// The certificate of these pairs, by the numbers of their rows, with the rows that a join drew. It copies them.
+/// The certificate of these pairs, by the numbers of their rows, with the rows that a join drew and the sides that
+/// ended. It copies them. It is good where the join gave these pairs, and they are as many as are wanted or all.
+///
+/// # Errors
+///
+/// - `Memory`: at any call.
 pub fn cert_of(alloc: Global, join: &FeedJoin, k: u32, pairs: &[(u32, u32)]) -> Result<Cert, Memory>
-    ensures { IfOk result (λ cert. cert ≡ cert_of join.now k pairs.now) }
+    ensures cert { IfOk result (λ cert. cert ≡ cert_of join.now k pairs.now) }
+    ensures good { AreGiven join.now pairs.now → AreEnough join.now k pairs.now → IsGood (cert_of join.now k pairs.now) }
 {
     let left = side_of(alloc, join, 1)?;
     let right = side_of(alloc, join, 2)?;
@@ -29,7 +35,8 @@ pub fn cert_of(alloc: Global, join: &FeedJoin, k: u32, pairs: &[(u32, u32)]) -> 
 
 /// The rows that a join drew of a side, 1 or 2, and whether the side ended.
 fn side_of(alloc: Global, join: &FeedJoin, side: u8) -> Result<CertSide, Memory>
-    ensures { IfOk result (λ cert. cert ≡ cert_side (side_in side join.now)) }
+    ensures side { IfOk result (λ cert. cert ≡ cert_side (side_in side join.now)) }
+    ensures kept { IsKept join.now }
 {
     let mut rows = Vec::new(alloc);
     for number in 0..join.drawn(side) {
@@ -44,6 +51,10 @@ fn side_of(alloc: Global, join: &FeedJoin, side: u8) -> Result<CertSide, Memory>
 }
 
 /// The bytes of the certificate of these pairs. Where they are the pairs that the join gave, as many as are wanted or all, it is good.
+///
+/// # Errors
+///
+/// - `Memory`: at any call.
 pub fn write(
     alloc: Global,
     join: &FeedJoin,
@@ -55,7 +66,7 @@ pub fn write(
     requires right { length join.now.right.rows ≤ most_rows }
     ensures bytes { IfOk result (λ bytes. bytes.items ≡ written (cert_of join.now k pairs.now)) }
     ensures read_back { IfOk result (λ bytes. AreRecordsOf (cert_of join.now k pairs.now) (records_of bytes.items)) }
-    ensures good { IsKept join.now → AreGiven join.now pairs.now → AreEnough join.now k pairs.now → IsGood (cert_of join.now k pairs.now) }
+    ensures good { AreGiven join.now pairs.now → AreEnough join.now k pairs.now → IsGood (cert_of join.now k pairs.now) }
 {
     let cert = cert_of(alloc, join, k, pairs)?;
     rs_cert::write(alloc, &cert)

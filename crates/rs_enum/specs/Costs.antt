@@ -18,6 +18,7 @@ estimate_under cards number (SetOperator left right) mask = estimate_under cards
 estimate_under cards number (Rank term child) mask = estimate_under cards number child mask
 estimate_under cards number tree mask = (cards_at cards number).estimate (entries tree) mask
 
+-- the same once the terms are evaluated that the plan evaluates
 abbrev pub estimate_of : List BlockCards → ℕ → PlanTree → ℕ
 estimate_of cards number tree = estimate_under cards number tree (terms tree)
 

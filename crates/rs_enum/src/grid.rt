@@ -45,6 +45,10 @@ impl Grid {
     ghost use Rattle.rs_enum.specs.Grids.{IsSearched, IsSetSearched, cost_at};
 
     /// Room for any query. Nothing is found in it.
+    ///
+    /// # Errors
+    ///
+    /// - `Memory`: at any call.
     pub fn make(alloc: Global) -> Result<Grid, Memory>
         ensures { IfOk result (λ grid. (block entries terms : ℕ) → cost_at grid block entries terms ≡ None) }
     {
@@ -82,7 +86,12 @@ impl Grid {
     }
 
     /// The least cost of all plans of a signature of a block that drop no duplicates, by the query, the catalogue and the cards
-    /// that the grid was last filled for. None where no plan has the signature, as where the query has no such block.
+    /// that the grid was last filled for, whatever it was filled for before.
+    ///
+    /// # Errors
+    ///
+    /// - `None`: exactly where no such plan has the signature, as where the query has no such block; and of a grid that was never
+    ///   filled.
     pub fn cost(&self, block: u8, entries: u8, terms: u8) -> Option<u128>
         ensures { result ≡ cost_at self.now block entries terms }
     {

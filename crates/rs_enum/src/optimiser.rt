@@ -18,6 +18,10 @@ use rs_value::Memory;
 use std::alloc::Global;
 
 /// The plan of least cost, and of least code among those, of a query.
+///
+/// # Errors
+///
+/// - `Memory`: at any call.
 pub fn best(alloc: Global, catalog: &Catalog, query: &Query, cards: &Cards) -> Result<Plan, Memory>
     requires query { IsQuery catalog.now query.now }
     requires cards { AreCards query.now (cards_of cards.now) }

@@ -41,6 +41,10 @@ struct Lines {
 /// The text of a plan: a line for each node, with how many rows are expected of it and what it costs. With counts each line
 /// says what its node has done, too; they are those of all nodes, a node before its children and the left one before the right
 /// one.
+///
+/// # Errors
+///
+/// - `Memory`: at any call.
 pub fn explain(
     alloc: Global,
     catalog: &Catalog,

@@ -40,6 +40,7 @@ calls_in inquiry = map Score (calls_of inquiry.requests)
 abbrev pub Finds : Type 1
 Finds = List ℕ → Option (List ℕ) → Type 0
 
+-- what a fetch finds of files that tell this, and anything where they tell nothing
 abbrev pub finds_in : Option FilesTold → Finds
 finds_in told name there = IfSome told (λ t. file_named name t.folder ≡ there)
 

@@ -34,7 +34,8 @@ halt_events (PutFailed part) = Put part ∷ []
 halt_events (FetchFailed name) = Fetch name ∷ []
 halt_events (CallFailed call) = Score call ∷ []
 
--- the halt fits the events that were not done
+-- the halt fits the events that were not done: there are none; there was no memory; or the first of them is the put
+-- that failed and had taken a prefix of its bytes, the fetch that failed, or the call
 abbrev pub HaltsAt : Halt → List Event → Environment → Environment → Type 0
 HaltsAt Ended rest old new = rest ≡ []
 HaltsAt NoMemory rest old new = ⊤
@@ -43,7 +44,7 @@ HaltsAt (PutFailed part) rest old new =
 HaltsAt (FetchFailed name) rest old new = (more : List Event) × (rest ≡ Fetch name ∷ more) × Faulted old.files new.files
 HaltsAt (CallFailed call) rest old new = (more : List Event) × (rest ≡ Score call ∷ more) × Faulted old.scorer.outside new.scorer.outside
 
--- which of these events were done: all, or those before a halt
+-- which of these events were done: all, or those before a halt, with what the halt itself did; and no others
 pub record Did (events : List Event) (halt : Halt) (old new : Environment) : Type 0 where
   pub done : List Event
   pub rest : List Event

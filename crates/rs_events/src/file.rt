@@ -5,7 +5,11 @@ use rs_outside::{FetchFault, Files};
 use rs_value::Text;
 use std::alloc::Global;
 
-/// The bytes of the file of this name, which are at most `limit`.
+/// The bytes of the file of this name, which are at most `limit`. It makes one fetch.
+///
+/// # Errors
+///
+/// - Those of `Files::fetch`, as the fetch answers.
 pub fn fetch_file<F: Files>(
     alloc: Global,
     file: &Text,

@@ -5,7 +5,8 @@ ghost use Rattle.rs_events.specs.Environment.{Environment};
 use rs_expr::Scorer;
 use rs_outside::{Files, Sink};
 
-/// The files, the scorer and the output that a run is given, handed down as one.
+/// The files, the scorer and the output that a run is given, handed down as one. Each is lent, and what its borrower
+/// does to it is done here.
 pub trait Host {
     type Files: Files;
 

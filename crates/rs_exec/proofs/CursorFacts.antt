@@ -38,7 +38,7 @@ use Rattle.rs_exec.proofs.PlacesFacts.{list-few-of, plan-part}
 use Rattle.rs_exec.proofs.SetStartFacts.{query-asked, query-stands, query-tree}
 
 -- a query that sees all rows of its tables sees no worth that passes a maximum
-bounded-world : (catalogue : CatalogDef) (answer : Answering) (query : Query) → IsQuery catalogue query → IsBounded answer catalogue query → IsBoundedWorld (world_of catalogue answer query)
+pub bounded-world : (catalogue : CatalogDef) (answer : Answering) (query : Query) → IsQuery catalogue query → IsBounded answer catalogue query → IsBoundedWorld (world_of catalogue answer query)
 bounded-world catalogue answer query formed bounded number has mask rows term inside there within =
     let block = block_in query number in
     bounded-view answer catalogue query number (sizes_of catalogue block) mask rows term bounded (IsSizes-all catalogue block (block-formed catalogue query number formed))

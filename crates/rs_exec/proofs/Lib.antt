@@ -3,6 +3,7 @@ mod AlikeFacts
 mod AnswerFacts
 mod FeedFacts
 mod BlockFacts
+mod CertifyFacts
 mod CoreFacts
 mod CountFacts
 pub mod CoversFacts
@@ -13,6 +14,7 @@ mod DistinctListFacts
 mod DistinctStepFacts
 mod DrawFacts
 mod FewFacts
+mod GreaterFacts
 pub mod HeldFacts
 mod LargerAnswers
 mod LargerFacts

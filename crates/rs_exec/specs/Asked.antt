@@ -43,7 +43,8 @@ HasBoundedWorths w number =
     (mask : ℕ) (rows : List ℕ) (term : Term) → In rows (combinations w.catalogue (numbered_block w number) (sizes_in w number) mask) → In term (numbered_block w number).terms
     → is_inside term.entries mask ≡ true → worth_of w.answer w.catalogue (numbered_block w number) rows term ≤ term.max
 
--- nor is one of the query
+-- nor is one of the query; so it is of a query with its tops where the rank indexes hold the scorer's answers
+-- (`worths_are_within_tops` of rs_query)
 abbrev pub IsBoundedWorld : World → Type 0
 IsBoundedWorld w = (number : ℕ) → HasBlock w.query number → HasBoundedWorths w number
 

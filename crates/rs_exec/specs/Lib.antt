@@ -1,5 +1,6 @@
 pub mod Asked
 pub mod Asking
+pub mod Certifying
 pub mod Cores
 pub mod Covering
 pub mod Cursors

@@ -22,6 +22,7 @@ pub record CanPutOut (catalogue : CatalogDef) (query : Query) (row : RankRow) : 
 abbrev pub values_for : CatalogDef → Query → RankRow → List Value
 values_for catalogue query row = outputs_of catalogue (block_in query row.ids.block) row.ids.rows
 
+-- a row with its output values
 abbrev pub output_row : World → RankRow → OutputRow
 output_row w row = record { row = row; values = values_for w.catalogue w.query row }
 

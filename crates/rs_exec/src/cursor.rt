@@ -50,7 +50,12 @@ impl Model for Cursor {
 }
 
 impl Cursor {
-    /// A cursor over a plan of the query. No row is asked for yet.
+    /// A cursor over a plan of the query. No row is asked for yet. It stands for the catalogue and each scorer whose answers the plan's
+    /// indexes hold and by which no term is worth more than its maximum.
+    ///
+    /// # Errors
+    ///
+    /// - `Memory`: at any call.
     pub fn start(
         alloc: Global,
         catalog: &Snapshot<'_>,
@@ -78,9 +83,19 @@ impl Cursor {
         }
     }
 
-    /// The next row of the answer, or None where it has ended or LIMIT rows were given. The scorer is called only where this
-    /// row, or the end, needs it. Once None was answered it is answered again, without a call and without memory. After a
-    /// fault each further call answers `Broken`.
+    /// The next row of the answer. The scorer is called only where this row, or the end, needs it. The plan's indexes have to hold the
+    /// scorer's answers, since a scan of an index calls nobody.
+    ///
+    /// # Errors
+    ///
+    /// - `None`: exactly where the answer has ended or LIMIT rows were given, unless the ask that finds the end comes to a fault.
+    ///   Behind that ask, or behind LIMIT rows, it always comes, without a call and without memory.
+    /// - `BadScore`: exactly at the first call of this ask whose answer lies outside 0 to the predicate's MAX, unless `Probe` or
+    ///   `Memory` came before.
+    /// - `Probe`: only where the last call of this ask failed; the scorer's count of faults rose.
+    /// - `Memory`: at any time of this ask, but not behind an answer outside that range. The calls that were made are a first part
+    ///   of those of the ask.
+    /// - `Broken`: exactly where an earlier call of this cursor answered a fault.
     pub fn next<S: Scorer>(
         &mut self,
         catalog: &Snapshot<'_>,
@@ -112,8 +127,13 @@ impl Cursor {
         &self.query
     }
 
-    /// What the node at a place of the plan has done so far, or None past the last one. A node stands before its children, the
-    /// first one at 0. It takes no memory.
+    /// What the node at a place of the plan has done so far. A node stands before its children, the first one at 0. It takes no
+    /// memory. The counts are those of the definitions as long as the cursor stands; behind a call that failed no clause says what
+    /// they are.
+    ///
+    /// # Errors
+    ///
+    /// - `None`: exactly past the last node of the plan.
     pub fn counts(&self, node: u8) -> Option<Counts>
         ensures past { (w : World) (n : ℕ) → (result ≡ None) ↔ (length (counts_of_plan w (plan_of self.now) n) ≤ node) }
         ensures counts { (catalogue : CatalogDef) (answer : Answering) → StandsFor catalogue answer self.now

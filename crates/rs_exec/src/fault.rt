@@ -6,8 +6,8 @@ use std::alloc::AllocFailed;
 /// Why a cursor gave no row.
 #[derive(Clone, Copy, Debug, PartialEq, Eq)]
 pub enum ExecFault {
-    /// What the scorer answered to a rank operator is no score: it doesn't lie in 0..max. The predicate's number counts from
-    /// 0; the rows are those of the term's entries.
+    /// The number that the scorer answered to a rank operator is no score: it lies outside 0 to `max`, which is the predicate's MAX.
+    /// The predicate's number counts from 0; the rows are those of the term's entries.
     BadScore {
         predicate: u8,
         ids: Ids,

@@ -33,7 +33,8 @@ ghost use Rattle.rs_query.specs.declared.query.Query.{Query};
 
 use rs_catalog::snapshots_stay;
 
-/// The rows of a plan are those of the query in the stable order of their scores. Cut to LIMIT they are its answer.
+/// The rows of a plan are those of the query in the stable order of their scores. Cut to LIMIT they are its answer. A block has at most
+/// eight terms, as those of each bound query have.
 pub fn plans_give_the_answer()
     ensures order { (w : World) (tree : PlanTree) → HasFewTerms w.query → IsPlan w.catalogue w.query tree
         → answers_of w tree ≡ stable (λ row. row.score) (rows_of w.answer w.catalogue w.query w.view) }

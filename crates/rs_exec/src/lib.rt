@@ -5,6 +5,7 @@
 //! in order. Any two plans of a query have the same rows; up to LIMIT these are the query's answer.
 #![tactic(auto)]
 
+mod calls_laws;
 mod context;
 mod cursor;
 mod distinct;
@@ -24,6 +25,7 @@ mod set_laws;
 mod start;
 mod tally;
 
+pub use calls_laws::{calls_certify_rows, greater_answers_call_no_more};
 pub use cursor::Cursor;
 pub use distinct_laws::distinct_gives_the_first_rows;
 pub use fault::ExecFault;

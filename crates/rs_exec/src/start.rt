@@ -181,7 +181,8 @@ fn distinct_over(head: DistinctNode, below: Box<PlanNode>) -> PlanNode
     PlanNode::Distinct(head, below)
 }
 
-/// A node in memory of its own.
+/// A node in memory of its own. A node that is to stand below another one is put there as it is made, so that no function holds a
+/// node by value while it makes another.
 fn hold(alloc: Global, node: PlanNode) -> Result<Box<PlanNode>, Memory>
     ensures { IfOk result (λ held. held.value ≡ node) }
 {

@@ -22,6 +22,7 @@ mutual
     Greatest : Formula → Formula → Formula
     Case : Condition → Formula → Formula → Formula
 
+  -- a condition over the same arguments
   pub data Condition : Type 0 where
     Numbers : Rel → Formula → Formula → Condition
     Texts : Rel → TextSide → TextSide → Condition

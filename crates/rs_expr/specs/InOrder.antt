@@ -24,7 +24,7 @@ pub record InquiryEnds {A F : Type 0} (inquiry : Inquiry A F) (result : Result A
   pub made : Made (calls_of inquiry.requests) old new
   pub gives : result ≡ inquiry.outcome
 
--- the last call that was made failed
+-- the last call that was made failed, and the result is its fault
 pub record InquiryFails {A F : Type 0} (inquiry : Inquiry A F) (result : Result A F) (old new : ScorerState) : Type 0 where
   pub done : List (Request F)
   pub last : Request F

@@ -27,7 +27,8 @@ side_of (side.Arg i) args = argument_text (slice_get args i)
 side_of (side.Text t) args = t
 
 abbrev mutual
-  -- the value of a formula; division truncates towards zero, and CASE gives the result of the first condition that holds
+  -- the value of a formula over whole numbers without bounds; division truncates towards zero, and CASE gives the
+  -- result of the first condition that holds, or that of ELSE
   pub value_of : Formula → List Value → ℤ
   value_of (Argument i) args = argument_number (slice_get args i)
   value_of (Constant n) args = n

@@ -56,7 +56,8 @@ is_call_planned state = list_any (λ call. call == length state.calls + 1) state
 abbrev pub answered_score : MemScorerState → PredicateDef → List Value → ℤ
 answered_score state predicate args = unwrap_or (written_for (call_of predicate args) state.written) (value_of predicate.formula args)
 
--- what a call answers, where there is memory
+-- what a call answers, where there is memory: a fault where that is planned, the written score, or else the value of
+-- the formula
 abbrev pub score_answer : PredicateDef → List Value → MemScorerState → Result ℤ ScorerFault
 score_answer predicate args state = if is_call_planned state then Err Failed else Ok (answered_score state predicate args)
 

@@ -1,7 +1,7 @@
 -- Scores: whole numbers from 0 to a greatest one.
 use Rattle.std.specs.Prelude.{ℕ, ℤ, pos, negsuc, nat_le, Bool, false, Option, Some, None, if◌then◌else◌}
 
--- whether a number lies in 0..max
+-- whether a number lies from 0 to max
 abbrev pub is_score : ℕ → ℤ → Bool
 is_score max (pos n) = nat_le n max
 is_score max (negsuc n) = false

@@ -45,7 +45,8 @@ abbrev pub counted : List Call → ℕ → ℕ
 counted [] count = count
 counted (call ∷ calls) count = counted calls (raised count)
 
--- these calls were made, and no others
+-- these calls were made, and no others: the told list grew by them, and the number by as many, standing still at 2^64 -
+-- 1
 pub record Made (calls : List Call) (old new : ScorerState) : Type 0 where
   pub told : new.outside.told ≡ option_map (λ told. told ++ calls) old.outside.told
   pub counted : new.calls ≡ counted calls old.calls

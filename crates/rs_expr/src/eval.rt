@@ -9,7 +9,8 @@ use crate::expr::{Cond, Expr, TextSide};
 use rs_value::Value;
 
 impl Expr {
-    /// The value of the formula for these arguments. It takes no memory.
+    /// The value of the formula for these arguments, over whole numbers without bounds: division cuts towards zero, and
+    /// CASE gives the result of the first condition that holds. It takes no memory.
     pub fn eval(&self, args: &[Value]) -> i128
         requires narrow { is_some (width_of (formula_of self.now)) ≡ true }
         requires args { uses (has_argument args.now) (formula_of self.now) ≡ true }

@@ -57,6 +57,10 @@ fn copied_values(alloc: Global, values: &[Value]) -> Result<List<Value>, Memory>
 
 impl Call {
     /// The call of the predicate of this name with these arguments, which are copied.
+    ///
+    /// # Errors
+    ///
+    /// - `Memory`: at any call.
     pub fn copy(alloc: Global, predicate: &Text, args: &[Value]) -> Result<Call, Memory>
         ensures { IfOk result (λ call. call ≡ record { predicate = predicate.now; args = args.now }) }
     {
@@ -110,6 +114,10 @@ impl MemScorer {
 
     /// Writes the score of the predicate of this name for these arguments: in place of the one that is there, or else
     /// as a last one.
+    ///
+    /// # Errors
+    ///
+    /// - `Memory`: at any call; nothing changes.
     pub fn set(&mut self, predicate: &Text, args: &[Value], score: i128) -> Result<(), Memory>
         ensures ok { OnOk result
             (self.new ≡ after_set (record { predicate = predicate.now; args = args.now }) score self.old) }
@@ -126,6 +134,10 @@ impl MemScorer {
     }
 
     /// Plans that the call of this number, counted from 1, fails. Several may be planned.
+    ///
+    /// # Errors
+    ///
+    /// - `Memory`: at any call; nothing changes.
     pub fn fail_at(&mut self, call: u64) -> Result<(), Memory>
         ensures ok { OnOk result (self.new ≡ after_fail_at call self.old) }
         ensures err { OnErr result (self.new ≡ self.old) }

@@ -1,7 +1,11 @@
 ghost use Rattle.std.specs.Prelude.{◌≡◌};
 ghost use Rattle.rs_expr.specs.Scores.{score_within};
 
-/// A number as a score, where it lies in 0..max.
+/// A number as a score, where it lies from 0 to `max`.
+///
+/// # Errors
+///
+/// - `None`: exactly where the number lies outside 0 to `max`.
 pub fn score_within(got: i128, max: u32) -> Option<u32>
     ensures { result ≡ score_within max got }
 {

@@ -21,14 +21,21 @@ pub struct Call {
     pub args: List<Value>,
 }
 
-/// What answers the score of a predicate. Each call may cost money, so each is counted.
+/// What answers the score of a predicate. Each call may cost money, so each is counted. A scorer may have any number of
+/// calls at first: the clauses of `score` say exactly what one call adds.
 pub trait Scorer {
     /// What is answered, for a predicate and arguments, which no call changes; how many calls were made; the calls, where the
     /// object tells them; how many failed; and whether none will.
     ghost state: { Self → ScorerState };
 
-    /// The score of a predicate for these arguments, which have the kinds of its parameters. It may lie outside 0 to the
-    /// predicate's greatest score.
+    /// The score of a predicate for these arguments, which have the kinds of its parameters. It may lie outside 0 to
+    /// the predicate's greatest score. The same predicate and arguments always have the same score. Each call is told
+    /// and counted, also one that fails, but not one for which there was no memory.
+    ///
+    /// # Errors
+    ///
+    /// - `Failed`: only where the count of faults rose; of a steady scorer never. The call is told and counted.
+    /// - `Memory`: at any call, which isn't told.
     fn score(&mut self, predicate: &Predicate, args: &[Value]) -> Result<i128, ScorerFault>
         requires { all_fit predicate.now.params args.now ≡ true }
         ensures answers { Answers ((state self.old).answer predicate.now args.now) result }

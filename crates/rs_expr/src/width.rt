@@ -14,6 +14,10 @@ const ARGUMENT_WIDTH: u128 = GREATEST_INT as u128;
 impl Expr {
     /// The greatest magnitude that the formula can have, for arguments in range; `None` where it or a part passes
     /// 2^127 - 1, or a divisor is 0. It takes no memory.
+    ///
+    /// # Errors
+    ///
+    /// - `None`: exactly where that of the formula or of a part passes 2^127 - 1, or a divisor is 0.
     #[cycle(width)]
     pub fn width(&self) -> Option<u128>
         ensures value { result ≡ width_of (formula_of self.now) }

@@ -20,7 +20,15 @@ pub trait Feed {
     /// many draws failed; and whether none will. The three counts stand still at 2^64 - 1.
     ghost state: { Self → FeedState };
 
-    /// The next row, or none at the end.
+    /// The next row, or none at the end. Where the feed tells its rows, it is the first one that wasn't given yet. Each
+    /// draw is counted, also one that fails, each row that was given, and each failure.
+    ///
+    /// # Errors
+    ///
+    /// - `None`: where the feed tells its rows and the draw doesn't fail, exactly where all were given; that is no
+    ///   fault.
+    /// - `Failed`: only where the count of faults rose; of a steady feed never.
+    /// - `Memory`: at any call.
     fn draw(&mut self) -> Result<Option<FeedRow>, FeedFault>
         ensures row { GivesNext (state self.old).outside.told (state self.old).given result }
         ensures told { (state self.new).outside.told ≡ (state self.old).outside.told }

@@ -11,6 +11,10 @@ pub struct FeedRow {
 
 impl FeedRow {
     /// An equal row.
+    ///
+    /// # Errors
+    ///
+    /// - `Memory`: at any call.
     pub fn copy(&self) -> Result<FeedRow, Memory>
         ensures { IfOk result (λ row. row ≡ self.now) }
     {

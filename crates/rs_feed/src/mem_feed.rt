@@ -53,6 +53,10 @@ impl MemFeed {
     }
 
     /// Adds a row as the last one. Nothing is to be drawn yet.
+    ///
+    /// # Errors
+    ///
+    /// - `Memory`: at any call; nothing changes.
     pub fn add(&mut self, join: Text, score: u32) -> Result<(), Memory>
         requires { self.old.draws ≡ 0 }
         ensures ok { OnOk result (self.new ≡ record self.old {
@@ -65,6 +69,10 @@ impl MemFeed {
     }
 
     /// Plans that the draw of this number, counted from 1, fails. Several may be planned.
+    ///
+    /// # Errors
+    ///
+    /// - `Memory`: at any call; nothing changes.
     pub fn fail_at(&mut self, call: u64) -> Result<(), Memory>
         ensures ok { OnOk result (self.new ≡ record self.old { failing = self.old.failing ++ call ∷ [] }) }
         ensures err { OnErr result (self.new ≡ self.old) }

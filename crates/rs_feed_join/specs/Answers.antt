@@ -47,6 +47,7 @@ abbrev pub answer_by : List FeedRow → List FeedRow → ℕ → Option SideAsk 
 answer_by lefts rights n None = Ok (slice_get (joined_pairs (cut lefts) (cut rights)) n)
 answer_by lefts rights n (Some ask) = Err (fault_at lefts rights ask)
 
+-- the next pair behind n pairs, none, or why a row is refused, over the finished lists of rows
 abbrev pub next_answer : List FeedRow → List FeedRow → ℕ → Result (Option FeedPair) JoinFault
 next_answer lefts rights n = answer_by lefts rights n (find (is_refused lefts rights) (asks_of_cuts lefts rights n))
 

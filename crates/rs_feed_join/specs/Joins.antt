@@ -100,6 +100,7 @@ finished_after (Ok (Some pair)) finished = finished
 finished_after (Ok None) finished = true
 finished_after (Err fault) finished = finished
 
+-- what a call leaves: the rows that were taken stay, and a side that ended is drawn no more
 pub record IsAfter (old new : FeedJoinState) (result : Result (Option FeedPair) JoinFault) : Type 0 where
   pub given : new.given ≡ given_after result old.given
   pub finished : new.finished ≡ finished_after result old.finished

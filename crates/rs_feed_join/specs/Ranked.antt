@@ -24,7 +24,7 @@ left_side = record { mask = 1; terms = 1 }
 abbrev pub right_side : Side
 right_side = record { mask = 2; terms = 2 }
 
--- a row by its number, from 1
+-- a row by its number, from 1, as one of a side: it has one entry and one term, whose worth is the score
 abbrev pub left_row : ℕ → FeedRow → RankRow
 left_row number row =
     record { ids = record { block = 1; mask = 1; rows = number ∷ 0 ∷ 0 ∷ 0 ∷ 0 ∷ 0 ∷ [] }; sum = row.score }

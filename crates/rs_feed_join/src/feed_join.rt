@@ -15,8 +15,9 @@ use rs_value::Text;
 use std::alloc::Global;
 use std::marker::Model;
 
-/// The join of two ranked feeds by the texts of their rows. It draws one row at a time, of the feed that can still bring the greater sum,
-/// and gives each pair as soon as no pair that is still to come can precede it.
+/// The join of two ranked feeds by the texts of their rows. It draws one row at a time, of the feed whose threshold comes first: that is
+/// the key of the last row drawn of it with the first row of the other feed. It gives each pair once it comes at or before both
+/// thresholds, so that no pair that is still to come can precede it.
 ///
 /// The rows that it drew stay with it, also after a failure. After a call that answered a fault every later one answers `Broken`, and
 /// draws nothing.
@@ -55,10 +56,29 @@ impl FeedJoin {
         }
     }
 
-    /// The next pair, the greatest sum of both scores first, at equal sums the lesser left number, and then the lesser right one; or none
-    /// at the end.
+    /// The next pair, the greatest sum of both scores first, at equal sums the lesser left number, and then the lesser
+    /// right one; or none at the end. Of each feed it takes the longest front in which no score rises, of at most
+    /// 131,072 rows, and it refuses the row behind that front, where it draws it.
     ///
-    /// Both feeds are to be the ones of all calls, and no other is to draw of them.
+    /// Both feeds are to be the ones of all calls, and no other is to draw of them. Behind a call that gave a pair they
+    /// were drawn exactly as often as the pairs up to it take. What is said of feeds that tell their rows asks that
+    /// each score is below 2^32, as those of all rows are.
+    ///
+    /// The pairs that were given are the first of all that the feeds can have, and no pair that is still to come
+    /// precedes the last of them. That stays so once a call failed: such a call made the first of its draws, and a draw
+    /// that failed is the last of these. A side that ended is drawn no more, and behind the end nothing is drawn.
+    ///
+    /// # Errors
+    ///
+    /// - `None`: where the feeds tell their rows, exactly behind the last pair of both fronts, unless a row is refused
+    ///   or a call fails before; where they tell none, the same for whatever rows they may have.
+    /// - `OutOfOrder`: where no call fails before, exactly where a drawn row's score is greater than that of the row
+    ///   before it, and the row isn't one too many.
+    /// - `TooLong`: where no call fails before, exactly where a row is drawn of a side that gave 131,072, whatever its
+    ///   score.
+    /// - `Failed`: only where that feed's count of faults rose; of a steady feed never.
+    /// - `Broken`: exactly where an earlier call failed.
+    /// - `Memory`: at any call; the join is broken from then on.
     pub fn next<L: Feed, R: Feed>(
         &mut self,
         left: &mut L,
@@ -111,6 +131,7 @@ impl FeedJoin {
     pub fn drawn(&self, side: u8) -> u32
         ensures value { result ≡ length (side_in side self.now).rows }
         ensures few { result ≤ most_rows }
+        ensures kept { IsKept self.now }
     {
         self.side(side).rows.len() as u32
     }
@@ -137,6 +158,7 @@ impl FeedJoin {
     fn side(&self, side: u8) -> &DrawnSide
         ensures side { side_of result.now ≡ side_in side self.now }
         ensures few { length result.now.rows.items ≤ most_rows }
+        ensures kept { IsKept self.now }
     {
         if side == 1 {
             &self.parts.left

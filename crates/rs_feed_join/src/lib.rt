@@ -1,6 +1,6 @@
 //! The rank join of two ranked feeds: it draws from them one row at a time, and gives their pairs in order.
 //!
-//! Its promise: which pairs it gives, in which order; that it draws of each feed exactly the rows that these pairs take; and what a
+//! Its promise: which pairs it gives, in which order; that it draws of each feed exactly the rows that its thresholds ask for; and what a
 //! failure leaves.
 #![tactic(auto)]
 

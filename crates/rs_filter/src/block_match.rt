@@ -12,7 +12,8 @@ use rs_value::Memory;
 use std::marker::Model;
 
 /// What matches the rows of two sides of a join. The conjuncts that speak of one side alone are those of the sides. The ones that
-/// are left speak of entries of both, and are looked at here.
+/// are left speak of entries of both, and are looked at here. Rows that aren't of the sides, or have a number that isn't that of a row
+/// of their table, match nothing.
 #[derive(Drop)]
 pub struct BlockMatch<'a> {
     catalog: &'a Snapshot<'a>,

@@ -29,6 +29,10 @@ pub struct JoinConditions {
 
 impl JoinConditions {
     /// Those of a join of sides that have the entries of these masks.
+    ///
+    /// # Errors
+    ///
+    /// - `Memory`: at any call.
     pub fn new(
         alloc: Global,
         catalog: &Snapshot<'_>,

@@ -39,6 +39,11 @@ impl DistinctCore {
     }
 
     /// Takes the next row, and its output values. Gives it back where no earlier row had these values.
+    ///
+    /// # Errors
+    ///
+    /// - `None`: exactly where an earlier row had these values.
+    /// - `Memory`: at any call; the operator is spent from then on.
     pub fn feed(&mut self, row: RankRow, values: Vec<Value>) -> Result<Option<RankRow>, Memory>
         requires { self.old.spent ≡ false }
         ensures row { IfOk result (λ given. given ≡ given_for row values.items self.old.lists) }

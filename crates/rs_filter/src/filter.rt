@@ -21,6 +21,10 @@ pub fn passes(catalog: &Snapshot<'_>, block: &Block, conjuncts: u32, row: &RankR
 }
 
 /// The values of the output columns of a row, which has all entries of these columns.
+///
+/// # Errors
+///
+/// - `Memory`: at any call.
 pub fn project(
     alloc: Global,
     catalog: &Snapshot<'_>,

@@ -23,6 +23,10 @@ enum Side {
 }
 
 /// The join values of a row of the left side of a join by these conditions, in the order of the conjuncts.
+///
+/// # Errors
+///
+/// - `Memory`: at any call.
 pub fn left_values(
     alloc: Global,
     catalog: &Snapshot<'_>,
@@ -39,6 +43,10 @@ pub fn left_values(
 }
 
 /// The join values of a row of the right side of a join by these conditions, in the order of the conjuncts.
+///
+/// # Errors
+///
+/// - `Memory`: at any call.
 pub fn right_values(
     alloc: Global,
     catalog: &Snapshot<'_>,

@@ -24,7 +24,7 @@ search_made =
     ++ codes " WHERE h.city = r.city AND r.city = m.city"
     ++ codes " ORDER BY cheap(h.price) + 3 * tasty(r.rating) + 2 * famous(m.fame) LIMIT 10;"
 
--- the search, and once more for its plan and what its nodes did
+-- the tables, the predicates, the indexes, the search, and the search once more for its plan and what its nodes did
 abbrev pub script_text : List ℕ
 script_text =
     tables_made ++ predicates_made ++ search_made ++ codes "\n" ++ codes "EXPLAIN ANALYZE " ++ search_made ++ codes "\n"

@@ -9,9 +9,14 @@ use rs_value::{Memory, Text};
 use std::alloc::Global;
 use std::hash::RandomState;
 
-/// The files that are made from a number, with this many rows in each table: `hotel.csv`, `restaurant.csv`, `museum.csv`, and
-/// the script `gen.sql`, which reads the tables and searches them. The same numbers make the same bytes each time. Texts of
-/// the files are hashed by the keys.
+/// The files that are made from a number, with this many rows in each table: `hotel.csv`, `restaurant.csv`,
+/// `museum.csv`, and the script `gen.sql`, which reads the tables and searches them, in this order. None was fetched
+/// yet, and no fetch of them is to fail. The same numbers make the same bytes each time. Texts of the files are hashed
+/// by the keys.
+///
+/// # Errors
+///
+/// - `Memory`: at any call.
 pub fn generate(
     alloc: Global,
     hash_keys: RandomState,

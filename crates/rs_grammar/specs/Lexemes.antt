@@ -88,7 +88,8 @@ value_of Number bytes = pos (number_of bytes)
 value_of Literal bytes = pos 0
 value_of Symbol bytes = pos 0
 
--- what a token of a script is to the grammar
+-- what a token of a script is to the grammar: its kind, the text that a name or a text says, the value of a number, and
+-- its place
 abbrev pub lexeme_of : List ℕ → Token → Lexeme
 lexeme_of script token =
     let bytes = piece script token.at in

@@ -88,7 +88,8 @@ order_of Unexpected = 1
 order_of Foreigner = 1
 order_of TooDeep = 2
 
--- the first problem: it stands at the smallest place at which one does, and of those at that place it comes first
+-- the first problem: it stands at the smallest place at which one does. Of those at that place too many statements come
+-- first, then what isn't expected or isn't part of the language, and then too deep
 pub record IsRefused (ls : List Lexeme) (problem : Problem) (at : ℕ) : Type 0 where
   pub stands : ProblemStands ls problem at
   pub least : (other : Problem) (place : ℕ) → ProblemStands ls other place → (at < place) ⊎ ((at ≡ place) × (order_of problem ≤ order_of other))

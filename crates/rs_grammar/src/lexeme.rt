@@ -114,8 +114,12 @@ fn lexeme_of(alloc: Global, script: &[u8], token: Token) -> Result<Lexeme, Memor
     })
 }
 
-/// What the tokens of a script are to the grammar, or the first ones of them. It takes time linear in the
-/// script's length.
+/// What the tokens of a script are to the grammar, or the first ones of them. It takes time linear in the script's
+/// length. Each has its kind, the text that a name or a text says, the value of a number, and its place.
+///
+/// # Errors
+///
+/// - `Memory`: at any call.
 pub fn lexemes(alloc: Global, script: &Text, tokens: &[Token]) -> Result<Vec<Lexeme>, Memory>
     requires { IsFront script.now tokens.now }
     ensures { IfOk result (λ made. made.items ≡ map (lexeme_of script.now) tokens.now) }

@@ -60,7 +60,7 @@ impl Hrjn {
     }
 
     /// What the join does next. The pairs that it holds are in the order of their keys, and the one taken last came at or
-    /// before both thresholds.
+    /// before both thresholds. It asks as `RippleCore::ask` of rs_ripple does.
     pub fn ask(&self) -> JoinAsk
         requires { self.now.ripple.spent ≡ false }
         ensures ask { result ≡ ask_of self.now.ripple }
@@ -74,6 +74,10 @@ impl Hrjn {
     /// matcher is asked only of those that have equal join values.
     ///
     /// Where `exact` is set, the matcher isn't asked: rows that have equal join values match.
+    ///
+    /// # Errors
+    ///
+    /// - `Memory`: at any call, be it of the join or of the matcher; the join is spent from then on.
     pub fn feed_left<M: Matcher>(
         &mut self,
         row: RankRow,
@@ -114,6 +118,10 @@ impl Hrjn {
     /// matcher is asked only of those that have equal join values.
     ///
     /// Where `exact` is set, the matcher isn't asked: rows that have equal join values match.
+    ///
+    /// # Errors
+    ///
+    /// - `Memory`: at any call, be it of the join or of the matcher; the join is spent from then on.
     pub fn feed_right<M: Matcher>(
         &mut self,
         row: RankRow,
@@ -171,6 +179,10 @@ impl Hrjn {
     }
 
     /// Takes the first held pair, if the join is ready.
+    ///
+    /// # Errors
+    ///
+    /// - `None`: exactly where the operator isn't ready. Then nothing changes.
     pub fn take(&mut self) -> Option<RankRow>
         requires { self.old.ripple.spent ≡ false }
         ensures row { result ≡ taken_for (ask_of self.old.ripple) self.old.ripple }
@@ -182,6 +194,10 @@ impl Hrjn {
     }
 
     /// Takes the first held pair of a join that is ready.
+    ///
+    /// # Errors
+    ///
+    /// - `None`: never, since the join has to be ready.
     pub fn take_ready(&mut self) -> Option<RankRow>
         requires alive { self.old.ripple.spent ≡ false }
         requires ready { ask_of self.old.ripple ≡ Ready }

@@ -54,7 +54,8 @@ symbol_front byte rest =
 abbrev pub begins_comment : ℕ → List ℕ → Bool
 begins_comment byte rest = (byte == 45) && begins (λ next. next == 45) rest
 
--- what stands at the front
+-- what stands at the front, by its first byte: nothing, blanks or a comment, a token of some length, or a fault. Each
+-- run of bytes is as long as it can be
 unfoldable pub front_of : List ℕ → Front
 front_of [] = End
 front_of (byte ∷ rest) =

@@ -33,7 +33,8 @@ IsMore (Bad n) = Unit {0}
 IsMore Open = Unit {0}
 IsMore Wide = Unit {0}
 
--- behind this many tokens, the bytes of a script from a place on are refused with this fault
+-- behind this many tokens, the bytes of a script from a place on are refused with this fault: that of the first place
+-- at which there is one, and there too many tokens come before all others
 pub data RefusesBytes : ℕ → ℕ → List ℕ → LexFault → Type 0 where
   passes : (count at n : ℕ) (bytes : List ℕ) (fault : LexFault) → front_of bytes ≡ Gap n → RefusesBytes count (at + n) (drop n bytes) fault → RefusesBytes count at bytes fault
   takes : (count at n : ℕ) (sort : Sort) (bytes : List ℕ) (fault : LexFault) → count < most_tokens → front_of bytes ≡ Found sort n
@@ -43,7 +44,8 @@ pub data RefusesBytes : ℕ → ℕ → List ℕ → LexFault → Type 0 where
   open_text : (count at : ℕ) (bytes : List ℕ) → count < most_tokens → front_of bytes ≡ Open → RefusesBytes count at bytes (OpenText at)
   too_wide : (count at : ℕ) (bytes : List ℕ) → count < most_tokens → front_of bytes ≡ Wide → RefusesBytes count at bytes (NumberTooWide at)
 
--- from one place up to another, tokens stand one behind the other: none is empty, and no two share a byte
+-- from one place up to another, tokens stand one behind the other: none is empty, no two share a byte, and all lie in
+-- between
 abbrev pub TokensInOrder : ℕ → List Token → ℕ → Type 0
 TokensInOrder from [] to = from ≤ to
 TokensInOrder from (token ∷ rest) to = (from ≤ token.at.start) × (token.at.start < token.at.end) × TokensInOrder token.at.end rest to

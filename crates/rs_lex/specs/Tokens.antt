@@ -27,7 +27,8 @@ doubled mark (byte ∷ rest) = if byte == mark then byte ∷ byte ∷ doubled ma
 abbrev pub between : ℕ → List ℕ → List ℕ
 between mark text = mark ∷ (doubled mark text ++ (mark ∷ []))
 
--- these bytes are a token of this sort
+-- these bytes are a token of this sort, said without `front_of`: a word; a name or a text between its marks, of which a
+-- name has a character; digits of at most 4,000,000,000,000,000,000; or a symbol
 abbrev pub IsToken : Sort → List ℕ → Type 0
 IsToken Word bytes = IsTrue (is_word bytes)
 IsToken Quoted bytes = (name : List ℕ) × (0 < length name) × (bytes ≡ between quote name)
@@ -71,6 +72,6 @@ pub record IsComment (n : ℕ) (bytes : List ℕ) : Type 0 where
   pub line : IsTrue (list_all (λ byte. not (byte == 10)) (take n bytes))
   pub whole : IsTrue (begins (λ byte. not (byte == 10)) (drop n bytes)) → ⊥
 
--- what stands between tokens
+-- what stands between tokens: blanks, or a comment
 abbrev pub IsGap : ℕ → List ℕ → Type 0
 IsGap n bytes = IsBlanks n bytes ⊎ IsComment n bytes

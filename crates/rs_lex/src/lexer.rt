@@ -18,8 +18,19 @@ pub const MOST_BYTES: usize = 1_048_576;
 // Each place in a script fits the `u32` of a span, that of its end too.
 const _: () = prove!(MOST_BYTES <= u32::MAX as usize);
 
-/// The tokens of a script in their order, each with its place. Blanks and comments stand between tokens and
-/// are left out. Where no token begins, or one too many does, the answer is the first such place.
+/// The tokens of a script in their order, each with its place. Blanks and comments stand between tokens and are left
+/// out. Where no token begins, or one too many does, the answer is the first such place. A script spells one list of
+/// tokens at most: what it spells within the limit is answered, and each refused place with its fault.
+///
+/// # Errors
+///
+/// - `TooManyTokens`: exactly where the first such place stands behind 100,000 tokens.
+/// - `BadByte`: exactly where it stands behind fewer, and is a byte at which no token begins, the first mark of an
+///   empty name among them, or a letter directly behind a number.
+/// - `OpenText`: exactly where it stands behind fewer, and is a mark that opens a text or a name that is never closed.
+/// - `NumberTooWide`: exactly where it stands behind fewer, and is that of digits whose number passes
+///   4,000,000,000,000,000,000.
+/// - `Memory`: at any call, in place of each answer.
 pub fn tokens(alloc: Global, script: &Text) -> Result<Vec<Token>, LexFault>
     requires { length script.now ≤ 1048576 }
     ensures spells { IfOk result (λ tokens. Spells 0 script.now tokens.items) }

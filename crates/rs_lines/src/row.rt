@@ -30,6 +30,10 @@ impl RowLines {
 
     /// The line of a printed row: rank, score and values as one record of CSV after RFC 4180, quoted only where need be and
     /// ended by a line feed.
+    ///
+    /// # Errors
+    ///
+    /// - `Memory`: at any call.
     pub fn line(&mut self, rank: u128, score: u64, values: &[Value]) -> Result<&[u8], Memory>
         ensures { IfOk result (λ line. line.now ≡ line_of rank score values.now) }
     {

@@ -1,5 +1,6 @@
 //! The core of the rank operator. It evaluates one more term of each row that it is fed, and gives the rows in the order
-//! of their new keys, each as soon as no row still to come can precede it.
+//! of their new keys, each once its key comes at or before that of the last row that it was fed: no row still to come can
+//! precede it then.
 //!
 //! Its promise: when it is ready, what it gives, and exactly how far it asks into its input.
 #![tactic(auto)]

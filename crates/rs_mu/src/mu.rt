@@ -79,7 +79,10 @@ impl MuCore {
         }
     }
 
-    /// What the operator does next. What it holds is in the order of the keys, each row with its own.
+    /// What the operator does next. What it holds is in the order of the keys, each row with its own. It is `Ready`
+    /// where the first held row's key comes at or before that of the last row fed, which is by the terms below, or
+    /// where the input has ended and a row is held; it is `End` where the input has ended and none is held, and else
+    /// `Need`.
     pub fn ask(&self) -> Ask
         requires { self.now.spent ≡ false }
         ensures ask { result ≡ ask_of self.now }
@@ -89,7 +92,12 @@ impl MuCore {
         ask_first(&self.last, self.ended, self.held.peek())
     }
 
-    /// Takes the input's next row, and what the operator's term is worth on it.
+    /// Takes the input's next row, and what the operator's term is worth on it. The row is held with weight times worth
+    /// added to its sum.
+    ///
+    /// # Errors
+    ///
+    /// - `Memory`: at any call; the operator is spent from then on.
     pub fn feed(&mut self, row: RankRow, worth: u32) -> Result<(), Memory>
         requires { CanFeed row worth self.old }
         ensures ok { OnOk result (self.new ≡ fed row worth self.old) }
@@ -133,6 +141,10 @@ impl MuCore {
     }
 
     /// Takes the first held row, if the operator is ready.
+    ///
+    /// # Errors
+    ///
+    /// - `None`: exactly where the operator isn't ready. Then nothing changes.
     pub fn take(&mut self) -> Option<RankRow>
         requires { self.old.spent ≡ false }
         ensures row { result ≡ taken_for (ask_of self.old) self.old }

@@ -56,7 +56,7 @@ impl Nrjn {
     }
 
     /// What the join does next. The pairs that it holds are in the order of their keys, and the one taken last came at or
-    /// before both thresholds.
+    /// before both thresholds. It asks as `RippleCore::ask` of rs_ripple does.
     pub fn ask(&self) -> JoinAsk
         requires { self.now.ripple.spent ≡ false }
         ensures ask { result ≡ ask_of self.now.ripple }
@@ -67,6 +67,10 @@ impl Nrjn {
     }
 
     /// Takes the left side's next row, and finds the right rows drawn so far that it matches.
+    ///
+    /// # Errors
+    ///
+    /// - `Memory`: at any call, be it of the join or of the matcher; the join is spent from then on.
     pub fn feed_left<M: Matcher>(&mut self, row: RankRow, matcher: &mut M) -> Result<(), Memory>
         requires row { CanFeedLeft row self.old }
         requires fits { Fits (M.truth matcher.old) self.old }
@@ -87,6 +91,10 @@ impl Nrjn {
     }
 
     /// Takes the right side's next row, and finds the left rows drawn so far that it matches.
+    ///
+    /// # Errors
+    ///
+    /// - `Memory`: at any call, be it of the join or of the matcher; the join is spent from then on.
     pub fn feed_right<M: Matcher>(&mut self, row: RankRow, matcher: &mut M) -> Result<(), Memory>
         requires row { CanFeedRight row self.old }
         requires fits { Fits (M.truth matcher.old) self.old }
@@ -125,6 +133,10 @@ impl Nrjn {
     }
 
     /// Takes the first held pair, if the join is ready.
+    ///
+    /// # Errors
+    ///
+    /// - `None`: exactly where the operator isn't ready. Then nothing changes.
     pub fn take(&mut self) -> Option<RankRow>
         requires { self.old.ripple.spent ≡ false }
         ensures row { result ≡ taken_for (ask_of self.old.ripple) self.old.ripple }
@@ -135,6 +147,10 @@ impl Nrjn {
     }
 
     /// Takes the first held pair of a join that is ready.
+    ///
+    /// # Errors
+    ///
+    /// - `None`: never, since the join has to be ready.
     pub fn take_ready(&mut self) -> Option<RankRow>
         requires alive { self.old.ripple.spent ≡ false }
         requires ready { ask_of self.old.ripple ≡ Ready }

@@ -1,4 +1,5 @@
-//! Lists in an order of keys: what lists whose keys rise have in common.
+//! Lists in an order of keys: what lists whose keys rise have in common. The definitions are over any items, a key of
+//! each, and an order of the keys; the laws hold of every total order.
 //!
 //! Its promise: it has laws and no code that runs: what a list is that is sorted by keys, what two such lists share,
 //! how far one has to be asked into, and what the merge of two is.

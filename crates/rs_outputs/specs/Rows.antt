@@ -36,5 +36,6 @@ abbrev pub lists_from : List (List Value) → List OutputRow → List (List Valu
 lists_from lists [] = lists
 lists_from lists (row ∷ rows) = lists_from (with_list row.values lists) rows
 
+-- the lists of output values of some rows, each once
 abbrev pub lists_of : List OutputRow → List (List Value)
 lists_of rows = lists_from [] rows

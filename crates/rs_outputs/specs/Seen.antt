@@ -18,6 +18,7 @@ same_value (Text t) (Text u) = bytes_eq t u
 same_value (Int n) (Text u) = false
 same_value (Text t) (Int m) = false
 
+-- whether two lists are equal, value by value
 abbrev pub same_values : List Value → List Value → Bool
 same_values [] [] = true
 same_values [] (v ∷ vs) = false

@@ -55,7 +55,12 @@ impl Outputs {
         self.placed.has(values) || is_among(front, values) || is_among(back, values)
     }
 
-    /// Adds these values, where they are none of the lists. Says whether they were none.
+    /// Adds these values, where they are none of the lists. Says whether they were none. It takes no memory where there
+    /// is room for a further list.
+    ///
+    /// # Errors
+    ///
+    /// - `Memory`: at any call where there is no room for a further list; the lists stay as they were.
     pub fn add(&mut self, values: Vec<Value>) -> Result<bool, Memory>
         ensures new { IfOk result (λ new. new ≡ not (has_list values.items self.old.lists)) }
         ensures ok { OnOk result (self.new.lists ≡ with_list values.items self.old.lists) }
@@ -77,7 +82,12 @@ impl Outputs {
         }
     }
 
-    /// Adds a copy of these values, where they are none of the lists. Says whether they were none.
+    /// Adds a copy of these values, where they are none of the lists. Says whether they were none. The copy is made
+    /// only where they were none.
+    ///
+    /// # Errors
+    ///
+    /// - `Memory`: at any call; the lists stay as they were.
     pub fn add_copy(&mut self, values: &[Value]) -> Result<bool, Memory>
         ensures new { IfOk result (λ new. new ≡ not (has_list values.now self.old.lists)) }
         ensures ok { OnOk result (self.new.lists ≡ with_list values.now self.old.lists) }
@@ -91,6 +101,10 @@ impl Outputs {
     }
 
     /// Makes room for a number of further lists.
+    ///
+    /// # Errors
+    ///
+    /// - `Memory`: at any call; the lists stay as they were.
     pub fn make_room(&mut self, more: usize) -> Result<(), Memory>
         ensures lists { self.new.lists ≡ self.old.lists }
         ensures room { OnOk result (more ≤ self.new.room) }

@@ -18,9 +18,17 @@ use rs_rank::{Answer, sort_stably};
 use rs_value::SetOp;
 use std::alloc::Global;
 
-/// The answer of a query: everything joined, filtered, scored and stably sorted, cut to LIMIT. The scorer is called for
-/// every combination in lexicographic order, block after block, and for each combination for the terms in order, up to
-/// the first fault.
+/// The answer of a query: everything joined, filtered and scored, duplicates dropped where the query says so, and the rest stably
+/// sorted and cut to LIMIT. The scorer is called for every combination in lexicographic order, block after block, and for each
+/// combination for the terms in order, up to the first fault.
+///
+/// # Errors
+///
+/// - `BadScore`: exactly at the first call whose answer lies outside 0 to the predicate's MAX, unless `Probe` or
+///   `Memory` came before.
+/// - `Probe`: only where the last call that was made failed; the scorer's count of faults rose.
+/// - `Memory`: at any time, but not behind an answer outside that range. Then the calls that were made are the first
+///   ones, in their order.
 pub fn answer_plainly<S: Scorer>(
     alloc: Global,
     catalog: &Catalog,

@@ -6,8 +6,8 @@ use std::alloc::AllocFailed;
 /// Why a query was not answered.
 #[derive(Clone, Copy, Debug, PartialEq, Eq)]
 pub enum PlainFault {
-    /// What the scorer answered is no score: it doesn't lie in 0..max. The predicate's number counts from 0; the rows are
-    /// those of the term's entries.
+    /// The number that the scorer answered is no score: it lies outside 0 to `max`, which is the predicate's MAX. The predicate's
+    /// number counts from 0; the rows are those of the term's entries.
     BadScore {
         predicate: u8,
         ids: Ids,

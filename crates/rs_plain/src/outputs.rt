@@ -31,6 +31,10 @@ pub(crate) fn query_answers(
 }
 
 /// The rows that scored combinations of a block make.
+///
+/// # Errors
+///
+/// - `Memory`: at any call.
 pub fn block_answers(
     alloc: Global,
     catalog: &Snapshot<'_>,

@@ -62,7 +62,16 @@ pub(crate) fn scored_block<S: Scorer>(
     scored_rows(alloc, catalog, block, number, &combinations, scorer)
 }
 
-/// Some combinations of a block of this number, each with its score.
+/// Some combinations of a block of this number, each with its score. The scorer is called for each of them for the terms in order, up to
+/// the first fault.
+///
+/// # Errors
+///
+/// - `BadScore`: exactly at the first call whose answer lies outside 0 to the predicate's MAX, unless `Probe` or
+///   `Memory` came before.
+/// - `Probe`: only where the last call that was made failed; the scorer's count of faults rose.
+/// - `Memory`: at any time, but not behind an answer outside that range. Then the calls that were made are the first
+///   ones, in their order.
 pub fn scored_rows<S: Scorer>(
     alloc: Global,
     catalog: &Snapshot<'_>,

@@ -3,6 +3,7 @@ use Rattle.rs_plan.specs.declared.plan.Plan.{Plan}
 use Rattle.rs_plan.specs.declared.plan.Plan.TheVariants as plan
 use Rattle.rs_plan.specs.Trees.{Distinct, Hash, JoinOperator, Nested, Rank, RankScan, SeqScan, SetOperator, PlanTree}
 
+-- the tree of a plan: its operators, with their numbers
 abbrev pub tree_of : Plan → PlanTree
 tree_of (plan.SeqScan entry) = SeqScan entry
 tree_of (plan.RankScan entry term index) = RankScan entry term index

@@ -5,7 +5,9 @@
 #![tactic(auto)]
 
 mod program;
+mod streams;
 mod words;
 
 pub use program::{command, exit_code, no_memory};
+pub use streams::ClosedStreams;
 pub use words::command_line;

@@ -25,7 +25,7 @@ abbrev pub predicate_at : CatalogDef → ℕ → PredicateDef
 predicate_at catalogue number =
     unwrap_or (slice_get catalogue.predicates number) (record { name = []; params = []; max = 0; cost = 0; formula = Constant (pos 0) })
 
--- a number put into 0..max
+-- a number put into 0 to `max`: what is less becomes 0, and what is greater `max`
 abbrev pub clamped : ℕ → ℤ → ℕ
 clamped max (pos n) = min n max
 clamped max (negsuc n) = 0
@@ -34,7 +34,7 @@ clamped max (negsuc n) = 0
 abbrev pub scorer_answer : Answering → CatalogDef → Block → List ℕ → Term → ℤ
 scorer_answer answer catalogue block rows term = answer (predicate_at catalogue term.predicate) (argument_values catalogue block rows term)
 
--- the worth of a term: that number, put into 0..MAX of its predicate
+-- the worth of a term: that number, put into 0 to MAX of its predicate
 abbrev pub worth_of : Answering → CatalogDef → Block → List ℕ → Term → ℕ
 worth_of answer catalogue block rows term = clamped (predicate_at catalogue term.predicate).max (scorer_answer answer catalogue block rows term)
 

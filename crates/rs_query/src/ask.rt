@@ -19,8 +19,8 @@ use rs_value::Memory;
 /// Why a term has no worth for some rows.
 #[derive(Clone, Copy, Debug, PartialEq, Eq)]
 pub enum AskFault {
-    /// What the scorer answered is no score: it doesn't lie in 0..max. The predicate's number counts from 0; the rows are
-    /// those of the term's entries.
+    /// The number that the scorer answered is no score: it lies outside 0 to `max`, which is the predicate's MAX. The predicate's
+    /// number counts from 0; the rows are those of the term's entries.
     BadScore {
         predicate: u8,
         ids: Ids,
@@ -48,6 +48,12 @@ impl From<Memory> for AskFault {
 impl Block {
     /// What a term, counted from 1, is worth for rows that have all entries of the term. The scorer is called once, with its
     /// arguments in a list that is kept from call to call.
+    ///
+    /// # Errors
+    ///
+    /// - `BadScore`: exactly where the answer lies outside 0 to the predicate's MAX.
+    /// - `Probe`: only where the call failed; the scorer's count of faults rose.
+    /// - `Memory`: at any time, but not behind an answer outside that range. The scorer was called once or not at all.
     pub fn ask<S: Scorer>(
         &self,
         catalog: &Snapshot<'_>,
@@ -79,7 +85,7 @@ impl Block {
     }
 }
 
-/// A number that the scorer answered, as a worth. It is a fault where it doesn't lie in 0..max.
+/// A number that the scorer answered, as a worth. It is a fault where it lies outside 0 to `max`.
 fn worth_for(term: &Term, ids: &Ids, max: u32, got: i128) -> Result<u32, AskFault>
     ensures { result ≡ worth_for ask_faults term.now ids.now max got }
 {

@@ -45,6 +45,10 @@ impl Block {
     /// Makes a list that of the arguments of a term, counted from 1, for these rows. They are those that its predicate takes.
     /// The list is to be kept from call to call: what it held goes, and its memory stays, so that numbers take none once it has
     /// grown. After an error it holds some of the arguments.
+    ///
+    /// # Errors
+    ///
+    /// - `Memory`: at any call.
     pub fn args(
         &self,
         catalog: &Snapshot<'_>,
@@ -68,6 +72,10 @@ impl Block {
     }
 
     /// The values of the output columns for these rows.
+    ///
+    /// # Errors
+    ///
+    /// - `Memory`: at any call.
     pub fn outputs(
         &self,
         alloc: Global,
@@ -173,6 +181,10 @@ impl Block {
 
     /// Appends a copy of the cell of a column for these rows, which is of the column's kind. A number is put straight into the
     /// list, and takes no memory where the list has room.
+    ///
+    /// # Errors
+    ///
+    /// - `Memory`: at any call. No clause says what the list then holds.
     pub fn push_cell(
         &self,
         catalog: &Snapshot<'_>,

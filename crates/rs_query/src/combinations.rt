@@ -20,6 +20,10 @@ impl Block {
     /// The combinations of all entries of which every conjunct holds, in lexicographic order: for each entry the number of
     /// its row, counted from 1, and 0 past the last entry. At an entry that an equality ties to entries before it in the search only
     /// the rows of equal cells are looked at, so the time is that of a join and not of the product.
+    ///
+    /// # Errors
+    ///
+    /// - `Memory`: at any call.
     pub fn combinations(
         &self,
         alloc: Global,
@@ -34,6 +38,10 @@ impl Block {
 
     /// The combinations in which some row is behind those that an old view has of its entry, in lexicographic order. An entry
     /// that has no such row costs no more than a look at its size.
+    ///
+    /// # Errors
+    ///
+    /// - `Memory`: at any call.
     pub fn fresh(
         &self,
         alloc: Global,

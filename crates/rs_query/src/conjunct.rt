@@ -69,6 +69,10 @@ impl Conjunct {
     }
 
     /// The two columns, where the condition is that a column equals a column of another entry.
+    ///
+    /// # Errors
+    ///
+    /// - `None`: exactly where the condition doesn't say that columns of two entries are equal.
     pub fn equality(&self) -> Option<((u8, u8), (u8, u8))>
         ensures { result ≡ self.now.equality }
     {

@@ -5,7 +5,7 @@ ghost use Rattle.rs_query.specs.Blocks.{block_in};
 use crate::block::Block;
 use rs_value::SetOp;
 
-/// A bound query, with its LIMIT where there is one.
+/// A bound query: what a SELECT stands for, with numbers in place of names, and with its LIMIT where there is one.
 #[derive(Debug, Drop)]
 pub enum Query {
     One(Block, Option<u32>),
@@ -24,6 +24,10 @@ pub fn block_in(query: &Query, number: u8) -> &Block
 }
 
 /// How many rows the answer has at most, where the query says so.
+///
+/// # Errors
+///
+/// - `None`: exactly where the query has no LIMIT.
 pub fn limit_of(query: &Query) -> Option<u32>
     ensures { result ≡ limit_of query.now }
 {

@@ -63,7 +63,12 @@ impl<K: Ord, V> Queue<K, V> {
         has_entry(self.heap.as_slice(), key) || run_has(&self.run, key)
     }
 
-    /// Puts a pair in at the place of its key. Where there is no memory for it, the pair comes back.
+    /// Puts a pair in at the place of its key. Where there is no memory for it, the pair comes back. No pair is to have
+    /// an equal key.
+    ///
+    /// # Errors
+    ///
+    /// - `Err`: at any call, for want of memory: the pair comes back, and the queue stays as it was.
     pub fn push(&mut self, key: K, item: V) -> Result<(), (K, V)>
         requires { has_key K.cmp key self.old ≡ false }
         ensures ok { OnOk result (self.new ≡ put K.cmp (λ pair. pair.0) (key, item) self.old) }
@@ -84,6 +89,10 @@ impl<K: Ord, V> Queue<K, V> {
     }
 
     /// The first key, which comes before all others.
+    ///
+    /// # Errors
+    ///
+    /// - `None`: exactly where the queue is empty.
     pub fn peek(&self) -> Option<&K>
         ensures first { option_map (λ key. key.now) result ≡ option_map (λ pair. pair.0) (slice_get self.now 0) }
         ensures ordered { Climbs K.cmp (λ pair. pair.0) self.now }
@@ -101,7 +110,11 @@ impl<K: Ord, V> Queue<K, V> {
         }
     }
 
-    /// Takes the first pair out.
+    /// Takes the first pair out, whose key comes before those of all others.
+    ///
+    /// # Errors
+    ///
+    /// - `None`: exactly where the queue is empty.
     pub fn pop(&mut self) -> Option<(K, V)>
         ensures first { result ≡ slice_get self.old 0 }
         ensures rest { self.new ≡ drop 1 self.old }

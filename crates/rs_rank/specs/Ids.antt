@@ -8,7 +8,7 @@ abbrev pub IsZeroOutside : ℕ → List ℕ → Type 0
 IsZeroOutside mask [] = Unit {0}
 IsZeroOutside mask (row ∷ rows) = (mask % 2 ≡ 0 → row ≡ 0) × IsZeroOutside (mask / 2) rows
 
--- the ids are those of entries among six
+-- the ids are those of entries among six: six row numbers, which are 0 at entries outside the mask
 pub record IsIds (ids : Ids) : Type 0 where
   pub sized : length ids.rows ≡ 6
   pub entries : ids.mask < 2 ^ 6

@@ -11,7 +11,7 @@ use Rattle.rs_rank.specs.declared.key.Key.{Key}
 abbrev pub ids_cmp : Ids → Ids → Ordering
 ids_cmp = then_cmp (on (λ ids. ids.block) nat_cmp) (on (λ ids. ids.rows) (slice_cmp nat_cmp))
 
--- the greater bound comes first; at equal bounds the ids decide
+-- the greater bound comes first; at equal bounds the ids decide: the lesser block, and then the row numbers in order
 abbrev pub key_cmp : Key → Key → Ordering
 key_cmp = then_cmp (flip_args (on (λ key. key.bound) nat_cmp)) (on (λ key. key.ids) ids_cmp)
 

@@ -7,11 +7,12 @@ use Rattle.rs_rank.specs.declared.weights.Weights.{Weights}
 use Rattle.rs_rank.specs.Ids.{AreOtherIds, AreSidesOfRow, merge_ids}
 use Rattle.rs_rank.specs.Weights.{most_evaluated, rest, score_limit}
 
--- the key of a row of which the terms in a mask are evaluated
+-- the key of a row of which the terms in a mask are evaluated: its ids, and its sum with what the others can give at
+-- most
 abbrev pub key_of : Weights → ℕ → RankRow → Key
 key_of weights terms row = record { bound = row.sum + rest weights terms; ids = row.ids }
 
--- a row's sum is one that the terms in a mask can give
+-- a row's sum is one that the terms in a mask can give: it isn't above the most of them
 abbrev pub HasSum : Weights → ℕ → RankRow → Type 0
 HasSum weights terms row = row.sum ≤ most_evaluated weights terms
 
@@ -30,7 +31,7 @@ pub record CanMergeRows (left right : RankRow) : Type 0 where
   pub left_sum : left.sum ≤ score_limit
   pub right_sum : right.sum ≤ score_limit
 
--- the rows that keys and sums stand for, each with its key
+-- the rows that keys and sums stand for, each with its key: a join holds keys and sums alone
 abbrev pub rows_of_sums : List (Key × ℕ) → List (Key × RankRow)
 rows_of_sums pairs = map (λ pair. (pair.0, record { ids = pair.0.ids; sum = pair.1 })) pairs
 

@@ -22,7 +22,8 @@ one_by_one rights (left ∷ lefts) n asked (suc count) =
     ∷ asks_from Right (suc asked) (wanted_for rights left - asked)
     ++ one_by_one rights lefts (suc n) (max asked (wanted_for rights left)) count
 
--- the asks of a set operator up to a bar
+-- the asks of a set operator up to a bar: a union asks its sides in the order of their keys; INTERSECT and EXCEPT ask
+-- the left side, and behind each row of it the right one up to the first row whose bound is less
 abbrev pub set_schedule : SetOp → List Key → List Key → Option Key → List SideAsk
 set_schedule UnionAll lefts rights bar = schedule key_cmp lefts rights bar
 set_schedule Union lefts rights bar = schedule key_cmp lefts rights bar

@@ -24,7 +24,7 @@ sum_outside terms (weight ∷ weights) [] = 0
 sum_outside terms (weight ∷ weights) (value ∷ values) =
     (if terms % 2 == 1 then 0 else weight * value) + sum_outside (terms / 2) weights values
 
--- what the terms in a mask give to a score, of these worths
+-- what the terms in a mask give to a score, of these worths: the sum of weight times worth over them
 abbrev pub evaluated : Weights → ℕ → List ℕ → ℕ
 evaluated weights terms worths = sum_inside terms weights.weight worths
 
@@ -32,7 +32,7 @@ evaluated weights terms worths = sum_inside terms weights.weight worths
 abbrev pub most_evaluated : Weights → ℕ → ℕ
 most_evaluated weights terms = sum_inside terms weights.weight weights.max
 
--- what the terms that aren't in a mask can give to a score at most
+-- what the terms that aren't in a mask can give to a score at most: the sum of weight times maximum over them
 abbrev pub rest : Weights → ℕ → ℕ
 rest weights terms = sum_outside terms weights.weight weights.max
 

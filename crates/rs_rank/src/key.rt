@@ -69,6 +69,7 @@ impl Eq for Key {
 
 impl Key {
     /// The key of the merged row, from the keys of its sides: `self` under the terms `left`, and `other` under `right`.
+    /// Its bound is that under the terms of both.
     pub fn merge(&self, other: &Key, weights: &Weights, left: u8, right: u8) -> Key
         requires { CanMerge weights.now left right self.now other.now }
         ensures value { result ≡ merge_key weights.now left right self.now other.now }

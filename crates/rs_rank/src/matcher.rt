@@ -14,6 +14,10 @@ pub trait Matcher {
     ghost calls: { Self → ℕ };
 
     /// Whether the two rows match. Each call counts, also one that answers `Memory`.
+    ///
+    /// # Errors
+    ///
+    /// - `Memory`: at any call.
     fn matches(&mut self, left: &RankRow, right: &RankRow) -> Result<bool, Memory>
         ensures answer { IfOk result (λ answer. answer ≡ truth self.old left.now right.now) }
         ensures truth { truth self.new ≡ truth self.old }

@@ -17,7 +17,8 @@ pub struct RankRow {
 }
 
 impl RankRow {
-    /// The key of the row, of which the terms in the mask are evaluated.
+    /// The key of the row, of which the terms in the mask are evaluated: its ids, and its sum with what the other terms
+    /// can give at most. Where the sum is made of the worths of the evaluated terms, this is the bound of the row.
     pub fn key(&self, weights: &Weights, terms: u8) -> Key
         requires weights { IsWeights weights.now }
         requires sum { HasSum weights.now terms self.now }
@@ -33,7 +34,8 @@ impl RankRow {
         }
     }
 
-    /// The row of both sides, which are to be of the same block and to have no entry in common.
+    /// The row of both sides, which are to be of the same block and to have no entry in common. It has the entries of
+    /// both, and the sum of both sums.
     pub fn merge(&self, other: &RankRow) -> RankRow
         requires { CanMergeRows self.now other.now }
         ensures value { result ≡ merge_row self.now other.now }

@@ -13,6 +13,10 @@ pub trait Scored {
 }
 
 /// Puts rows into the stable order: greatest score first, and rows of equal scores as they stood.
+///
+/// # Errors
+///
+/// - `Memory`: at any call; the rows stay as they were.
 pub fn sort_stably<T: Scored>(rows: &mut Vec<T>) -> Result<(), Memory>
     ensures ok { OnOk result (rows.new.items ≡ stable T.score_of rows.old.items) }
     ensures err { OnErr result (rows.new.items ≡ rows.old.items) }

@@ -86,7 +86,10 @@ pub fn asks_of_core_are_exact()
         → IsNextAsk (schedule_of j lefts rights (suc count)) made count (length (answers j lefts rights)) (ask_of ripple) }
 {}
 
-/// How often the schedule for a number of answers asks each side.
+/// How often the schedule for a number of answers asks each side: one time more than there are rows of it whose key, merged with
+/// the first one of the other side, comes before that of the last of these answers; and where there are fewer answers, one time
+/// more than it has rows. But where the right side is empty, each side is asked once; and where the left one is empty, it is asked
+/// once and the right one not at all.
 pub fn schedule_has_the_asks()
     ensures left { (j : Join) (lefts rights : List RankRow) (n : ℕ) → AreSidesOf j lefts rights
         → asked Left (schedule_of j lefts rights (suc n))

@@ -1,5 +1,6 @@
 //! The core of a rank join. It draws the rows of two sides, each in the order of its keys, and gives the pairs that
-//! were found among them in the order of their keys, each as soon as no pair still to come can precede it.
+//! were found among them in the order of their keys, each once it comes at or before the thresholds of both sides: no
+//! pair still to come can precede it then.
 //!
 //! Its promise: which side it asks, by the thresholds of both; what it gives; exactly which asks it makes, in which
 //! order; and which pairs of the rows drawn a join holds.

@@ -19,8 +19,8 @@ use std::marker::Model;
 /// The core of a join of two sides, whose rows come in the order of their keys, each by the terms of its side. It knows
 /// no rows but the pairs: it says which side it needs, is told the key of each row drawn and each pair found, and gives.
 ///
-/// The pairs of a row that was drawn are to be told before the core is asked again. After a call that answered `Memory`
-/// it is spent, and no further call is allowed.
+/// The pairs of a row that was drawn are to be told, in any order and each once, before the core is asked again. After a
+/// call that answered `Memory` it is spent, and no further call is allowed.
 #[derive(Drop)]
 pub struct RippleCore {
     weights: Weights,
@@ -94,7 +94,10 @@ impl RippleCore {
     }
 
     /// What the join does next. The pairs that it holds are in the order of their keys, and the one taken last came at or
-    /// before both thresholds.
+    /// before both thresholds. A side of which no row was drawn is asked first, the left one before the right one;
+    /// where such a side has ended, it is `End`. Behind that it is `Ready` where a held pair comes at or before both
+    /// thresholds, and else the side is asked whose threshold comes first, the left one on a tie. A side that has ended
+    /// has its threshold beyond all keys; where both have, and no pair is held, it is `End`.
     pub fn ask(&self) -> JoinAsk
         requires { self.now.spent ≡ false }
         ensures ask { result ≡ ask_of self.now }
@@ -257,6 +260,10 @@ impl RippleCore {
     }
 
     /// Takes a pair of rows of both sides.
+    ///
+    /// # Errors
+    ///
+    /// - `Memory`: at any call; the operator is spent from then on.
     pub fn found(&mut self, row: RankRow) -> Result<(), Memory>
         requires { CanFind row self.old }
         ensures ok { OnOk result (self.new ≡ found row self.old) }
@@ -284,6 +291,10 @@ impl RippleCore {
     }
 
     /// Takes the pair of a left row and a right row, if they match.
+    ///
+    /// # Errors
+    ///
+    /// - `Memory`: at any call, be it of the core or of the matcher; the core is spent from then on.
     pub fn try_pair<M: Matcher>(
         &mut self,
         left: &RankRow,
@@ -316,6 +327,10 @@ impl RippleCore {
     }
 
     /// Takes the first held pair, if the join is ready.
+    ///
+    /// # Errors
+    ///
+    /// - `None`: exactly where the operator isn't ready. Then nothing changes.
     pub fn take(&mut self) -> Option<RankRow>
         requires { self.old.spent ≡ false }
         ensures row { result ≡ taken_for (ask_of self.old) self.old }
@@ -330,6 +345,10 @@ impl RippleCore {
     }
 
     /// Takes the first held pair of a join that is ready.
+    ///
+    /// # Errors
+    ///
+    /// - `None`: never, since the join has to be ready.
     pub fn take_ready(&mut self) -> Option<RankRow>
         requires alive { self.old.spent ≡ false }
         requires ready { ask_of self.old ≡ Ready }

@@ -29,7 +29,7 @@ byte_order_mark = 239 ∷ 187 ∷ 191 ∷ []
 abbrev pub without_mark : List ℕ → List ℕ
 without_mark bytes = if bytes_eq (take 3 bytes) byte_order_mark then drop 3 bytes else bytes
 
--- bytes that are no text end the run
+-- bytes that are no text end the run; `text_of` never answers that there was no memory
 abbrev pub or_text_fault : Result (List ℕ) TextFault → Result (List ℕ) Fault
 or_text_fault (Ok script) = Ok script
 or_text_fault (Err (text.NotUtf8 at)) = Err (Script (NotUtf8 at))

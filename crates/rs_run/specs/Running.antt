@@ -57,7 +57,9 @@ abbrev pub OfForm : Finds → Answering → Option Form → WordsRun → Type 0
 OfForm finds answer None run = run ≡ fails Usage
 OfForm finds answer (Some form) run = IsFormRun finds answer form run
 
--- the run of these words
+-- the run of these words. Of `top` it is one fetch, and then a put for each line, or a fault before any put. Of `plain` and `run` it is what the script does. Of
+-- `gen` it is what the generated script does under `run`, over the generated files and with the number as the seed, without the fetches. Of `ta` and `view` it is
+-- what the script does under that word. Of `feed`, `cert` and `check` it is the run of the word over its files. Of words of no form it is no event, and Usage
 abbrev pub IsRun : Finds → Answering → List (List ℕ) → WordsRun → Type 0
 IsRun finds answer words run = OfForm finds answer (form_of words) run
 

@@ -49,7 +49,7 @@ abbrev pub scan_lines : Answering → CatalogDef → Query → ScanInput → Lis
 scan_lines answer catalogue query scan =
     rank_lines 1 (answer_of answer catalogue query (all_rows catalogue query)) ++ access_line scan (scan_asks (limit_of query) scan) ∷ []
 
--- a bound query, as the statement of this number; one that isn't eligible ends the run
+-- a bound query, as the statement of this number: nobody is called. One that isn't eligible ends the run
 abbrev pub scan_of : Answering → ℕ → CatalogDef → Query → Option ScanInput → Step RunFault CatalogDef
 scan_of answer number catalogue query None = still (Err (NotEligible Ta number))
 scan_of answer number catalogue query (Some scan) = lines_step (scan_lines answer catalogue query scan) catalogue
@@ -66,7 +66,7 @@ abbrev pub scanned_step : Answering → ℕ → CatalogDef → syntax.Query → 
 scanned_step answer number catalogue query = scanned_or answer number catalogue (or_bind_fault (bound_query catalogue query))
 
 -- what the statement of this number does: a query is answered by a scan, and what makes a table, a predicate, an index or rows does what it does under
--- the other words. All others end the run
+-- the other words. All others end the run, and nobody looks at their names and types
 abbrev pub DoesByScan : Finds → Answering → ℕ → CatalogDef → Command → Step RunFault CatalogDef → Type 0
 DoesByScan finds answer number catalogue (Ask query) step = step ≡ scanned_step answer number catalogue query
 DoesByScan finds answer number catalogue (Declare name query) step = step ≡ still (Err (NotEligible Ta number))
@@ -93,6 +93,7 @@ counted_step number step = record { events = step.events; outcome = of step.outc
   of (Ok catalogue) = Ok (record { number = suc number; catalogue = catalogue })
   of (Err fault) = Err fault
 
+-- what the next statement does, by its number
 abbrev pub DoesNext : Finds → Answering → ScanState → Command → Step RunFault ScanState → Type 0
 DoesNext finds answer state command step =
     (own : Step RunFault CatalogDef) × DoesByScan finds answer state.number state.catalogue command own × (step ≡ counted_step state.number own)

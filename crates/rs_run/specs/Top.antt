@@ -18,7 +18,7 @@ use Rattle.rs_run.specs.Words.{TopWords}
 use Rattle.rs_statement.specs.Content.{content_of, or_table_fault, table_limit}
 use Rattle.rs_statement.specs.Lines.{rank_lines}
 
--- the number of a value, of which a text has none
+-- the number of a value. A text has 0 here, but the column that `top` ranks by is of numbers (`number_column` of `Schema::of_header`)
 abbrev pub number_in : Value → ℤ
 number_in (Int n) = n
 number_in (Text t) = pos 0
@@ -27,7 +27,7 @@ number_in (Text t) = pos 0
 abbrev pub number_at : ℕ → List Value → ℤ
 number_at place values = unwrap_or (option_map number_in (slice_get values place)) (pos 0)
 
--- the rows of a table, each with the number in a column as its score, or the first row whose number is no score
+-- the rows of a table, each with the number in a column, which is there, as its score, or the first row whose number is no score
 abbrev pub scored_rows : List ℕ → ℕ → Relation → Result (List ScoredRow) IndexFault
 scored_rows column max table = scored_from (number_at (unwrap_or (place_of column table.schema) 0)) max 1 table.rows
 

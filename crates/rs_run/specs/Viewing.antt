@@ -119,7 +119,7 @@ fetched_rows kept count name = do
   view ← view_named name.text kept.views
   Ok (take wanted view.rows)
 
--- each FETCH ranks its rows from 1 on
+-- each FETCH ranks its rows from 1 on, and calls nobody
 abbrev pub fetch_step : Kept → ℤ × Span → Name → statement.Step Kept
 fetch_step kept count name = refused_or (λ rows. lines_step (rank_lines 1 rows) kept) (fetched_rows kept count name)
 
@@ -144,7 +144,7 @@ DoesKept finds answer kept (Insert table rows) step =
 DoesKept finds answer kept command step =
     (own : statement.Step CatalogDef) × Does finds answer Plainly kept.catalogue command own × (step ≡ beside_views kept.views own)
 
--- what the statement of this number does: a query, and EXPLAIN of one, end the run
+-- what the statement of this number does: a query, and EXPLAIN of one, end the run, and nobody looks at their names and types
 abbrev pub DoesByViews : Finds → Answering → ℕ → Kept → Command → Step RunFault Kept → Type 0
 DoesByViews finds answer number kept (Declare name query) step = step ≡ declared_step answer number kept name query
 DoesByViews finds answer number kept (Ask query) step = step ≡ still (Err (NotEligible View number))
@@ -169,6 +169,7 @@ numbered_step number step = record { events = step.events; outcome = of step.out
   of (Ok kept) = Ok (record { number = suc number; kept = kept })
   of (Err fault) = Err fault
 
+-- what the next statement does, by its number
 abbrev pub DoesNextByViews : Finds → Answering → ViewState → Command → Step RunFault ViewState → Type 0
 DoesNextByViews finds answer state command step =
     (own : Step RunFault Kept) × DoesByViews finds answer state.number state.kept command own × (step ≡ numbered_step state.number own)

@@ -29,7 +29,32 @@ use rs_value::Text;
 use std::alloc::Global;
 
 /// Does all that the command does: takes the words of the command line without the program's name, fetches from
-/// `files`, asks `scorer` for scores, puts rows to `out` and the line of a fault to `err`, and answers the status.
+/// `files`, asks `scorer` for scores, puts rows to `out` and the line of a fault to `err`, and answers the status. Where the
+/// files don't tell what they hold, as those of the system, what is said of a run is said of one over some files.
+///
+/// # Errors
+///
+/// Each status but Memory yields to want of memory, and to a put, a fetch or a call that failed before.
+///
+/// - `Done`: exactly where all events of the run were done and it has no fault. Nothing is put to `err` then.
+/// - `Memory`: at any time. The line of the fault may be missing then.
+/// - `Usage`: exactly where the words are of no form: of none of the nine, or a number word isn't one or lies outside
+///   its range. There is no event then.
+/// - `Read`: exactly where the run comes to the fetch of a name that isn't there, or of a file beyond its limit; and
+///   where a fetch failed, which comes only where the files' count of faults rose.
+/// - `Write`: only where a put on standard output failed; its count of faults rose.
+/// - `Script`: exactly where the run comes to a script that isn't UTF-8, whose tokens or statements are refused, to a
+///   statement that breaks a rule or has no room for its name, or under `ta` or `view` to one that the word doesn't
+///   take.
+/// - `Table`: exactly where the run comes to a file that is no table, or not one of the columns that are wanted; under
+///   `feed` or `cert` also to a row out of order, under `cert` to more rows of a side than a certificate has, and under
+///   `check` to a file that is no certificate.
+/// - `BadScore`: exactly where the run comes to a call whose answer lies outside 0 to the predicate's MAX, but for
+///   those of a sample; in `top` to a row whose number lies outside 0 to MAX, and under `feed` or `cert` to one whose
+///   number lies outside 0 to 4,294,967,295.
+/// - `Probe`: only where a call failed; the scorer's count of faults rose.
+/// - `Session`: exactly where the run comes to a DECLARE of a name that is taken, to a FETCH or CLOSE of one that no
+///   open cursor or held view has, or to a 65th cursor or view.
 pub fn run<F: Files, S: Scorer, O: Sink, E: Sink>(
     alloc: Global,
     words: &[Text],
@@ -71,6 +96,25 @@ pub fn run<F: Files, S: Scorer, O: Sink, E: Sink>(
 /// Does what the script of a name says, with its queries evaluated so: what `run` does for the words `plain SCRIPT` and
 /// `run SCRIPT SEED`. Beside these, it may choose plans by guesses, for which `run` has no word; and the readers may know what
 /// was read before.
+///
+/// # Errors
+///
+/// Each status but Memory yields to want of memory, and to a put, a fetch or a call that failed before.
+///
+/// - `Done`: exactly where all events of the run were done and it has no fault. Nothing is put to `err` then.
+/// - `Memory`: at any time. The line of the fault may be missing then.
+/// - `Usage`: never.
+/// - `Read`: exactly where the run comes to the fetch of a name that isn't there, or of a file beyond its limit; and
+///   where a fetch failed, which comes only where the files' count of faults rose.
+/// - `Write`: only where a put on standard output failed; its count of faults rose.
+/// - `Script`: exactly where the run comes to a script that isn't UTF-8, whose tokens or statements are refused, or to
+///   a statement that breaks a rule or has no room for its name.
+/// - `Table`: exactly where the run comes to the file of a CREATE TABLE that is no table of its columns.
+/// - `BadScore`: exactly where the run comes to a call whose answer lies outside 0 to the predicate's MAX, but for
+///   those of a sample.
+/// - `Probe`: only where a call failed; the scorer's count of faults rose.
+/// - `Session`: exactly where the run comes to a DECLARE of a name that is taken, to a FETCH or CLOSE of one that no
+///   open cursor has, or to a 65th cursor.
 pub fn run_file<T: TableReader, F: Files, S: Scorer, O: Sink, E: Sink>(
     alloc: Global,
     evaluating: Evaluating,

@@ -57,7 +57,7 @@ pub enum RunFault {
         name: Text,
         place: u32,
     },
-    /// A fault of `top` or of a script.
+    /// A fault that statements have too: of `top`, of a script, or of a file of `feed`, `cert` or `check`.
     Statement(Fault),
 }
 
@@ -111,6 +111,10 @@ impl RunFault {
     }
 
     /// The fault's line for standard error, ended by a line feed.
+    ///
+    /// # Errors
+    ///
+    /// - `Memory`: at any call.
     pub fn line(&self, alloc: Global) -> Result<String, Memory>
         ensures { IfOk result (λ line. string_bytes line ≡ run_fault_line self.now) }
     {

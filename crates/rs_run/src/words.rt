@@ -223,6 +223,10 @@ fn view_command(words: &[Text]) -> Option<CommandLine<'_>>
 }
 
 /// A number of the command line: 1 to 20 decimal digits, that write a number from `least` to `most`.
+///
+/// # Errors
+///
+/// - `None`: exactly where the word isn't 1 to 20 decimal digits that write such a number.
 pub fn number_word(word: &Text, least: u64, most: u64) -> Option<u64>
     ensures { result ≡ number_word least most word.now }
 {

@@ -23,7 +23,7 @@ abbrev pub nth_greatest : ℕ → List ℕ → ℕ
 nth_greatest n numbers = unwrap_or (slice_get (stable (λ number. number) numbers) (n - 1)) 0
 
 -- which of the sampled scores is the cutoff: the place of the last row that is planned for, scaled down from all combinations to those
--- of the samples
+-- of the samples, and at least 1, so that with LIMIT 0 the cutoff is the greatest score
 abbrev pub cutoff_place : Block → List ℕ → List (List ℕ) → Option ℕ → ℕ
 cutoff_place block sizes samples limit =
     max 1 (div_ceil (planned_rows limit * product_inside (all_entries block) (map length samples)) (product_inside (all_entries block) sizes))
@@ -37,6 +37,7 @@ module _ (answer : Answering) (catalogue : CatalogDef) (block : Block) where
   abbrev pub sampled_scores : List (List ℕ) → List ℕ
   sampled_scores samples = map (λ rows. score_of answer catalogue block rows block.terms) (sampled_combinations catalogue block samples (all_entries block))
 
+  -- the cutoff: the score at that place among those of the sampled combinations, the greatest first, or 0 where there are fewer
   abbrev pub cutoff_of : List ℕ → List (List ℕ) → Option ℕ → ℕ
   cutoff_of sizes samples limit = nth_greatest (cutoff_place block sizes samples limit) (sampled_scores samples)
 

@@ -13,7 +13,8 @@ still_needed false more = suc more
 
 -- the rows that are taken of those from this number on, and the words that are left: this many rows are still to see, and this many still
 -- needed. As long as one is needed a word is drawn for each row, and the row is taken where the word, modulo the rows still to see with
--- this one, is less than the rows still needed
+-- this one, is less than the rows still needed. So it is also where all rows are taken: a small table uses words too, and what is taken of
+-- the tables behind it depends on that
 unfoldable pub taken_from : ℕ → ℕ → ℕ → List ℕ → List ℕ × List ℕ
 taken_from row zero needed words = ([], words)
 taken_from row (suc others) zero words = ([], words)

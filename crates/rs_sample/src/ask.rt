@@ -125,7 +125,7 @@ fn sampled_worth(asked: Result<u32, AskFault>) -> Result<u32, SampleFault>
     }
 }
 
-/// A number put into 0..max.
+/// A number put into 0 to `max`.
 fn clamp(got: i128, max: u32) -> u32
     ensures { result ≡ clamped max got }
 {

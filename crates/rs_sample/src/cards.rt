@@ -30,6 +30,11 @@ impl Cards {
     /// samples of its entries: block after block, term after term. A number outside 0 to the greatest score is put into
     /// that range. The number of calls is at most 46,656 for each term of a block of six entries, and 256 for a block of
     /// one.
+    ///
+    /// # Errors
+    ///
+    /// - `Probe`: only where the last call that was made failed; the scorer's count of faults rose.
+    /// - `Memory`: at any time. Then the calls that were made are the first ones, in their order.
     pub fn take<S: Scorer>(
         alloc: Global,
         catalog: &Catalog,

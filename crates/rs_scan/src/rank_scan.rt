@@ -60,6 +60,10 @@ impl RankScan {
     /// The next row of the view, with the number of a row of the table. The view has to be all rows of the index's table in what
     /// is seen of the catalogue. The scan goes on behind the entry that it drew last, so rows that join the index don't move it. It
     /// takes no memory.
+    ///
+    /// # Errors
+    ///
+    /// - `None`: exactly where all rows of the view were given. Then nothing changes.
     pub fn next(&mut self, catalog: &Snapshot<'_>) -> Option<RankRow>
         requires index { self.old.index < length catalog.now.indexes }
         requires view { IsOfAllRows catalog.now self.old }

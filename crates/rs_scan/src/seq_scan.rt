@@ -40,6 +40,10 @@ impl SeqScan {
     }
 
     /// The next row of the view. It takes no memory.
+    ///
+    /// # Errors
+    ///
+    /// - `None`: exactly where all rows of the view were given. Then nothing changes.
     pub fn next(&mut self) -> Option<RankRow>
         ensures row { result ≡ slice_get (rows_of_table self.old) self.old.drawn }
         ensures end { (result ≡ None) ↔ (self.old.drawn ≡ self.old.rows) }

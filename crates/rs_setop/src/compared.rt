@@ -111,7 +111,8 @@ impl<C: Choice> Compared<C> {
         }
     }
 
-    /// What is done next: the right side is asked until none of its rows to come can have the held row's values.
+    /// What is done next: the right side is asked until none of its rows to come can have the held row's values. The
+    /// left side is asked where no row of it is held, and where that side has ended it is `End`.
     pub fn ask(&self) -> JoinAsk
         requires { self.now.spent ≡ false }
         ensures ask { result ≡ ask_of self.now }
@@ -130,7 +131,12 @@ impl<C: Choice> Compared<C> {
         }
     }
 
-    /// Takes the left side's next row, and its output values.
+    /// Takes the left side's next row, and its output values. A row whose values a left row had before is dropped at
+    /// once.
+    ///
+    /// # Errors
+    ///
+    /// - `Memory`: at any call; the operator is spent from then on.
     pub fn feed_left(&mut self, row: RankRow, values: Vec<Value>) -> Result<(), Memory>
         requires alive { self.old.spent ≡ false }
         requires need { ask_of self.old ≡ NeedLeft }
@@ -150,7 +156,12 @@ impl<C: Choice> Compared<C> {
         Ok(())
     }
 
-    /// Takes the right side's next row, and its output values.
+    /// Takes the right side's next row, and its output values. Once that side is past the bound of the held row, the row is
+    /// dropped where it isn't of the choice.
+    ///
+    /// # Errors
+    ///
+    /// - `Memory`: at any call; the operator is spent from then on.
     pub fn feed_right(&mut self, row: RankRow, values: Vec<Value>) -> Result<(), Memory>
         requires alive { self.old.spent ≡ false }
         requires need { ask_of self.old ≡ NeedRight }
@@ -187,6 +198,10 @@ impl<C: Choice> Compared<C> {
     }
 
     /// Takes the held row, if the right side was asked far enough for it.
+    ///
+    /// # Errors
+    ///
+    /// - `None`: exactly where the operator isn't ready. Then nothing changes.
     pub fn take(&mut self) -> Option<RankRow>
         requires { self.old.spent ≡ false }
         ensures row { result ≡ taken_for (ask_of self.old) self.old }

@@ -1,5 +1,5 @@
 //! The cores of the set operators. Each draws the rows of two sides, each in the order of its keys, and gives the rows of
-//! UNION ALL, UNION, INTERSECT or EXCEPT in the order of their keys, each as soon as no row still to come can change it.
+//! UNION ALL, UNION, INTERSECT or EXCEPT in the order of their keys, each once no row still to come can change it.
 //!
 //! Its promise: which side each core asks, what it gives, and exactly which asks it makes, in which order.
 #![tactic(auto)]

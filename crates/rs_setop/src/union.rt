@@ -106,7 +106,8 @@ impl<R: Repeats> Merged<R> {
         }
     }
 
-    /// What the operator does next.
+    /// What the operator does next. A side whose next row isn't known is asked, the left one first. Once both are known
+    /// it is `Ready` where a row is held, and else `End`.
     pub fn ask(&self) -> JoinAsk
         requires { self.now.spent ≡ false }
         ensures { result ≡ ask_of self.now.heads }
@@ -114,7 +115,12 @@ impl<R: Repeats> Merged<R> {
         self.heads.ask()
     }
 
-    /// Takes the left side's next row, and its output values.
+    /// Takes the left side's next row, and its output values. UNION then drops the row whose key comes first, if the
+    /// next row of each side is known and the values of that row were taken.
+    ///
+    /// # Errors
+    ///
+    /// - `Memory`: at any call of UNION, which is spent from then on; never under UNION ALL.
     pub fn feed_left(&mut self, row: RankRow, values: Vec<Value>) -> Result<(), Memory>
         requires alive { self.old.spent ≡ false }
         requires need { ask_of self.old.heads ≡ NeedLeft }
@@ -132,7 +138,12 @@ impl<R: Repeats> Merged<R> {
         Ok(())
     }
 
-    /// Takes the right side's next row, and its output values.
+    /// Takes the right side's next row, and its output values. UNION then drops the row whose key comes first, if the
+    /// next row of each side is known and the values of that row were taken.
+    ///
+    /// # Errors
+    ///
+    /// - `Memory`: at any call of UNION, which is spent from then on; never under UNION ALL.
     pub fn feed_right(&mut self, row: RankRow, values: Vec<Value>) -> Result<(), Memory>
         requires alive { self.old.spent ≡ false }
         requires need { ask_of self.old.heads ≡ NeedRight }
@@ -171,6 +182,10 @@ impl<R: Repeats> Merged<R> {
     }
 
     /// Takes the held row whose key comes first, if the operator is ready.
+    ///
+    /// # Errors
+    ///
+    /// - `None`: exactly where the operator isn't ready. Then nothing changes.
     pub fn take(&mut self) -> Option<RankRow>
         requires { self.old.spent ≡ false }
         ensures row { result ≡ taken_for (ask_of self.old.heads) self.old }

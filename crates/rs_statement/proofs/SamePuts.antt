@@ -24,6 +24,7 @@ use Rattle.rs_typing.specs.declared.fault.BindFault.{BindFault}
 use Rattle.rs_query.specs.Answers.{answer_of, cut, limit_of}
 use Rattle.rs_query.specs.Questions.{first_of, is_bad}
 use Rattle.rs_query.specs.Views.{all_rows}
+use Rattle.rs_query.specs.WellFormed.{IsQuery}
 use Rattle.rs_query.specs.declared.query.Query.{Query}
 use Rattle.rs_plain.specs.Plain.{evaluation_of, plain_faults, questions_of}
 use Rattle.rs_plain.specs.declared.fault.PlainFault.{PlainFault}
@@ -35,6 +36,7 @@ use Rattle.rs_exec.specs.Asking.{world_of}
 use Rattle.rs_exec.specs.Cursors.{HasFewTerms, answer_for, answers_of, next_answer}
 use Rattle.rs_exec.specs.declared.fault.ExecFault.{ExecFault}
 use Rattle.rs_statement.specs.declared.sampling.Sampling.{Sampling}
+use Rattle.rs_statement.specs.declared.evaluating.Evaluating.{Evaluating}
 use Rattle.rs_statement.specs.declared.evaluating.Evaluating.TheVariants.{Planned, Plainly}
 use Rattle.rs_statement.specs.declared.fault.Fault.{Fault}
 use Rattle.rs_statement.specs.Lines.{ComeFirst, rank_lines}
@@ -52,7 +54,7 @@ use Rattle.rs_events.proofs.OneRun.{OneFile}
 use Rattle.rs_statement.proofs.PlanSteps.{outcome-value, row-given}
 use Rattle.rs_events.proofs.RanFacts.{puts-append, puts-scores}
 use Rattle.rs_statement.proofs.SameFetches.{same-lines, Agree, AgreeAll, AskTheSame, agree-fetched, all-closed, all-fetched, all-opened, all-with_index, all-with_predicate, all-with_rows, all-with_table, covers-unfiltered, found-agree, lines-fetched, others-free, without}
-use Rattle.rs_statement.proofs.UnfilteredFacts.{few-terms, least-plan, unfiltered-formed}
+use Rattle.rs_statement.proofs.UnfilteredFacts.{few-terms, least-plan, unfiltered, unfiltered-formed}
 
 -- lines alone
 puts-lines : (lines : List (List ℕ)) → puts (map Put lines) ≡ lines
@@ -159,6 +161,12 @@ module _ (w : plan.World) (tree : PlanTree) where
       split = ap (λ lines. lines ++ rank_lines (suc n) (take (suc count) (drop n rows))) (sym (puts-no_row n fault is));
     }
 
+  -- the asks of a FETCH are those of the next rows up to LIMIT
+  lines-asked : (n wanted : ℕ) → rank_lines (suc n) (take (next_asks w tree n wanted) (drop n rows)) ≡ next_lines (cut (limit_of w.query) rows) n wanted
+  lines-asked n wanted =
+      ap (λ size. rank_lines (suc n) (take (min wanted (ask_count (limit_of w.query) size - n)) (drop n rows))) (sym (length-map (list_of_plan w tree) (answer_for w)))
+      ∙ sym (same-lines (limit_of w.query) rows n wanted)
+
   first-planned : ComeFirst (puts (planned_step w tree).events) (rank_lines 1 (cut (limit_of w.query) rows))
   first-planned = subst (ComeFirst (puts (planned_step w tree).events))
       (ap (λ size. rank_lines 1 (take (ask_count (limit_of w.query) size) rows)) (sym (length-map (list_of_plan w tree) (answer_for w))) ∙ ap (rank_lines 1) (take-asks (limit_of w.query) rows))
@@ -180,6 +188,24 @@ puts-behind : {S : Type 0} (sampling : Sampling) (catalogue : CatalogDef) (query
 puts-behind sampling catalogue query rest =
     puts-append (sample_step catalogue sampling query).events rest.events ∙ ap (λ lines. lines ++ puts rest.events) (puts-inquiry (sample_inquiry catalogue sampling query) [])
 
+module _ (answer : Answering) where
+  -- a query that was answered plainly
+  puts-plainly : (catalogue : CatalogDef) (query : Query) (next : CatalogDef) → (evaluation_step catalogue (evaluation_of answer catalogue query (all_rows catalogue query))).outcome ≡ Ok next
+      → (puts (evaluation_step catalogue (evaluation_of answer catalogue query (all_rows catalogue query))).events ≡ rank_lines 1 (answer_of answer catalogue query (all_rows catalogue query)))
+      × (next ≡ catalogue)
+  puts-plainly catalogue query next ends =
+      let evaluated = evaluation_of answer catalogue query (all_rows catalogue query) in
+      let all = go evaluated.outcome refl ends in
+      (puts-inquiry evaluated (answer_lines evaluated.outcome) ∙ all.0, all.1) where
+        go : (outcome : Result (List Answer) PlainFault) → (evaluation_of answer catalogue query (all_rows catalogue query)).outcome ≡ outcome → query_outcome catalogue outcome ≡ Ok next
+            → (answer_lines (evaluation_of answer catalogue query (all_rows catalogue query)).outcome ≡ rank_lines 1 (answer_of answer catalogue query (all_rows catalogue query))) × (next ≡ catalogue)
+        go (Ok rows) is e = (
+          ap answer_lines (is ∙ ap Ok (sym (outcome-value plain_faults answer catalogue (answer_of answer catalogue query (all_rows catalogue query)) rows
+              (first_of (is_bad answer catalogue) (questions_of catalogue query (all_rows catalogue query))) is))),
+          let same : next ≡ catalogue = cc in same,
+        )
+        go (Err fault) is e = absurd cc
+
 module _ (give : GiveAnswers) (answer : Answering) where
   -- what a query puts by its plan comes first among the lines of its answer, whatever ends it
   pub first-query : (sampling : Sampling) (catalogue : CatalogDef) (query : syntax.Query) (bound : Query) → IsWrittenQuery query → bound_query catalogue query ≡ Ok bound
@@ -192,34 +218,68 @@ module _ (give : GiveAnswers) (answer : Answering) where
       subst (λ lines. ComeFirst lines (rank_lines 1 (answer_of answer catalogue bound (all_rows catalogue bound)))) (sym (puts-behind sampling catalogue bound (planned_step w tree)))
       (subst (λ answers. ComeFirst (puts (planned_step w tree).events) (rank_lines 1 answers)) (give w tree (few-terms catalogue bound formed) plans) (first-planned w tree))
 
-  -- and what a FETCH puts of a cursor by a plan comes first among the lines of the next rows of the answer
-  first-fetch : (state : State) (query : Query) (tree : PlanTree) (sizes : List ℕ) (name : List ℕ) (asked wanted : ℕ) → HasFewTerms query → IsPlan (snapshot sizes state.catalogue) query tree
-      → ComeFirst (puts (fetched_from answer state name asked wanted (ByPlan query tree sizes)).events)
-      (next_lines (answer_of answer (snapshot sizes state.catalogue) query (all_rows (snapshot sizes state.catalogue) query)) asked wanted)
-  first-fetch state query tree sizes name asked wanted few plans =
-      let seen = snapshot sizes state.catalogue in
-      let w = world_of seen answer query in
-      let all = answers_of w tree in
-      let asks = next_asks w tree asked wanted in
-      let step = asks_from w tree asked asks in
-      let asks_are : asks ≡ min wanted (ask_count (limit_of query) (length all) - asked) =
-      ap (λ size. min wanted (ask_count (limit_of query) size - asked)) (sym (length-map (list_of_plan w tree) (answer_for w))) in
-      subst (λ lines. ComeFirst lines (next_lines (answer_of answer seen query (all_rows seen query)) asked wanted))
-      (sym (puts-then_still step.events step.outcome (with_asks name asks state)))
-      (subst (λ rows. ComeFirst (puts step.events) (next_lines rows asked wanted)) (give w tree few plans)
-      (subst (ComeFirst (puts step.events)) (ap (λ n. rank_lines (suc asked) (take n (drop asked all))) asks_are ∙ sym (same-lines (limit_of query) all asked wanted))
-      (first-asks w tree asked asks)))
+  -- where a query ends well, it puts all lines of its answer
+  pub all-query : (evaluating : Evaluating) (catalogue next : CatalogDef) (query : syntax.Query) (bound : Query) → IsWrittenQuery query → bound_query catalogue query ≡ Ok bound
+      → (query_step evaluating answer catalogue bound).outcome ≡ Ok next
+      → puts (query_step evaluating answer catalogue bound).events ≡ rank_lines 1 (answer_of answer catalogue bound (all_rows catalogue bound))
+  all-query Plainly catalogue next query bound written is ends = (puts-plainly answer catalogue bound next ends).0
+  all-query (Planned sampling) catalogue next query bound written is ends =
+      let formed = unfiltered-formed catalogue query bound written is in
+      let w = world_of catalogue answer bound in
+      let tree = plan_for answer catalogue sampling bound in
+      let plans = least-plan catalogue bound (cards_for answer catalogue sampling bound) formed in
+      puts-behind sampling catalogue bound (planned_step w tree) ∙ (puts-planned w tree next ends).0 ∙ ap (rank_lines 1) (give w tree (few-terms catalogue bound formed) plans)
+
+  -- a FETCH of a cursor by a plan
+  module _ (state : State) (query : Query) (tree : PlanTree) (sizes : List ℕ) (name : List ℕ) (asked wanted : ℕ) (few : HasFewTerms query) (plans : IsPlan (snapshot sizes state.catalogue) query tree) where
+    abbrev seen_world : plan.World
+    seen_world = world_of (snapshot sizes state.catalogue) answer query
+
+    abbrev fetch_asks : ℕ
+    fetch_asks = next_asks seen_world tree asked wanted
+
+    abbrev fetch_asked : Step CatalogDef
+    fetch_asked = asks_from seen_world tree asked fetch_asks
+
+    abbrev wanted_lines : List (List ℕ)
+    wanted_lines = next_lines (answer_of answer (snapshot sizes state.catalogue) query (all_rows (snapshot sizes state.catalogue) query)) asked wanted
+
+    lines-are : rank_lines (suc asked) (take fetch_asks (drop asked (answers_of seen_world tree))) ≡ wanted_lines
+    lines-are = lines-asked seen_world tree asked wanted ∙ ap (λ rows. next_lines rows asked wanted) (give seen_world tree few plans)
+
+    -- what it puts comes first among the lines of the next rows of the answer
+    first-fetch : ComeFirst (puts (fetched_from answer state name asked wanted (ByPlan query tree sizes)).events) wanted_lines
+    first-fetch = subst (λ put. ComeFirst put wanted_lines) (sym (puts-then_still fetch_asked.events fetch_asked.outcome (with_asks name fetch_asks state)))
+        (subst (ComeFirst (puts fetch_asked.events)) lines-are (first-asks seen_world tree asked fetch_asks))
+
+    -- and where it ends well it is all of them
+    all-fetch : (after : State) → (fetched_from answer state name asked wanted (ByPlan query tree sizes)).outcome ≡ Ok after
+        → puts (fetched_from answer state name asked wanted (ByPlan query tree sizes)).events ≡ wanted_lines
+    all-fetch after ends = puts-then_still fetch_asked.events fetch_asked.outcome (with_asks name fetch_asks state) ∙ go fetch_asked.outcome refl ends ∙ lines-are where
+      go : (outcome : Result CatalogDef Fault) → fetch_asked.outcome ≡ outcome
+          → (then_step (record fetch_asked { outcome = outcome }) (still (Ok (with_asks name fetch_asks state)))).outcome ≡ Ok after
+          → puts fetch_asked.events ≡ rank_lines (suc asked) (take fetch_asks (drop asked (answers_of seen_world tree)))
+      go (Ok next) is e = (puts-asks seen_world tree asked fetch_asks next is).0
+      go (Err fault) is e = absurd cc
 
 -- and what a FETCH of a cursor puts whose plan is the chosen one
-pub first-fetched : GiveAnswers → (answer : Answering) (sampling : Sampling) (state : State) (sizes : List ℕ) (query : syntax.Query) (bound : Query) (name : List ℕ) (asked wanted : ℕ)
-    → IsWrittenQuery query → bound_query (snapshot sizes state.catalogue) query ≡ Ok bound
-    → ComeFirst (puts (fetched_from answer state name asked wanted (ByPlan bound (plan_for answer (snapshot sizes state.catalogue) sampling bound) sizes)).events)
-    (next_lines (answer_of answer (snapshot sizes state.catalogue) bound (all_rows (snapshot sizes state.catalogue) bound)) asked wanted)
-first-fetched give answer sampling state sizes query bound name asked wanted written is =
-    let seen = snapshot sizes state.catalogue in
-    let formed = unfiltered-formed seen query bound written is in
-    first-fetch give answer state bound (plan_for answer seen sampling bound) sizes name asked wanted (few-terms seen bound formed)
-    (least-plan seen bound (cards_for answer seen sampling bound) formed)
+module _ (give : GiveAnswers) (answer : Answering) (sampling : Sampling) (state : State) (sizes : List ℕ) (query : syntax.Query) (bound : Query) (name : List ℕ) (asked wanted : ℕ)
+    (written : IsWrittenQuery query) (is : bound_query (snapshot sizes state.catalogue) query ≡ Ok bound) where
+  abbrev seen : CatalogDef
+  seen = snapshot sizes state.catalogue
+
+  abbrev chosen : PlanTree
+  chosen = plan_for answer seen sampling bound
+
+  formed : IsQuery seen (unfiltered bound)
+  formed = unfiltered-formed seen query bound written is
+
+  pub first-fetched : ComeFirst (puts (fetched_from answer state name asked wanted (ByPlan bound chosen sizes)).events) (next_lines (answer_of answer seen bound (all_rows seen bound)) asked wanted)
+  first-fetched = first-fetch give answer state bound chosen sizes name asked wanted (few-terms seen bound formed) (least-plan seen bound (cards_for answer seen sampling bound) formed)
+
+  pub all-fetched_lines : (after : State) → (fetched_from answer state name asked wanted (ByPlan bound chosen sizes)).outcome ≡ Ok after
+      → puts (fetched_from answer state name asked wanted (ByPlan bound chosen sizes)).events ≡ next_lines (answer_of answer seen bound (all_rows seen bound)) asked wanted
+  all-fetched_lines = all-fetch give answer state bound chosen sizes name asked wanted (few-terms seen bound formed) (least-plan seen bound (cards_for answer seen sampling bound) formed)
 
 -- what the first of some events put comes first where what all of them put does
 pub first-of_part : (events done rest : List Event) (lines : List (List ℕ)) → events ≡ done ++ rest → ComeFirst (puts events) lines → ComeFirst (puts done) lines
@@ -240,30 +300,13 @@ alike-same a b left right same la lb = record {
 }
 
 module _ (give : GiveAnswers) (same : AskTheSame) (finds : Finds) (one : OneFile finds) (answer : Answering) (sampling : Sampling) where
-  -- a query that was answered plainly
-  puts-plainly : (catalogue : CatalogDef) (query : Query) (next : CatalogDef) → (evaluation_step catalogue (evaluation_of answer catalogue query (all_rows catalogue query))).outcome ≡ Ok next
-      → (puts (evaluation_step catalogue (evaluation_of answer catalogue query (all_rows catalogue query))).events ≡ rank_lines 1 (answer_of answer catalogue query (all_rows catalogue query)))
-      × (next ≡ catalogue)
-  puts-plainly catalogue query next ends =
-      let evaluated = evaluation_of answer catalogue query (all_rows catalogue query) in
-      let all = go evaluated.outcome refl ends in
-      (puts-inquiry evaluated (answer_lines evaluated.outcome) ∙ all.0, all.1) where
-        go : (outcome : Result (List Answer) PlainFault) → (evaluation_of answer catalogue query (all_rows catalogue query)).outcome ≡ outcome → query_outcome catalogue outcome ≡ Ok next
-            → (answer_lines (evaluation_of answer catalogue query (all_rows catalogue query)).outcome ≡ rank_lines 1 (answer_of answer catalogue query (all_rows catalogue query))) × (next ≡ catalogue)
-        go (Ok rows) is e = (
-          ap answer_lines (is ∙ ap Ok (sym (outcome-value plain_faults answer catalogue (answer_of answer catalogue query (all_rows catalogue query)) rows
-              (first_of (is_bad answer catalogue) (questions_of catalogue query (all_rows catalogue query))) is))),
-          let same : next ≡ catalogue = cc in same,
-        )
-        go (Err fault) is e = absurd cc
-
   -- a bound query
   alike-bound : (catalogue : CatalogDef) (query : syntax.Query) (bound : Query) (left right : CatalogDef) → IsWrittenQuery query → bound_query catalogue query ≡ Ok bound
       → (query_step Plainly answer catalogue bound).outcome ≡ Ok left → (query_step (Planned sampling) answer catalogue bound).outcome ≡ Ok right
       → Alike (query_step Plainly answer catalogue bound) (query_step (Planned sampling) answer catalogue bound) left right
   alike-bound catalogue query bound left right written is la lb =
       let formed = unfiltered-formed catalogue query bound written is in
-      let plainly = puts-plainly catalogue bound left la in
+      let plainly = puts-plainly answer catalogue bound left la in
       let w = world_of catalogue answer bound in
       let tree = plan_for answer catalogue sampling bound in
       let planned = puts-planned w tree right lb in

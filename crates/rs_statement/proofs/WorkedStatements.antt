@@ -25,6 +25,8 @@ use Rattle.rs_catalog.specs.Catalog.{CatalogDef, empty}
 use Rattle.rs_bind.specs.Indexes.{index_def_of}
 use Rattle.rs_bind.specs.Queries.{bound_query}
 use Rattle.rs_typing.proofs.ResultFacts.{same_Ok}
+use Rattle.rs_query.specs.Answers.{answer_of}
+use Rattle.rs_query.specs.Views.{all_rows}
 use Rattle.rs_query.specs.declared.query.Query.{Query}
 use Rattle.rs_plan.specs.Counts.{counts_of_plan}
 use Rattle.rs_plan.specs.Trees.{JoinOperator, Nested, Rank, RankScan, SeqScan}
@@ -41,6 +43,7 @@ use Rattle.rs_expr.specs.Scoring.{Answering}
 use Rattle.rs_events.specs.Events.{Fetch, Finds, Put, Score, found_in}
 use Rattle.rs_statement.specs.declared.evaluating.Evaluating.TheVariants.{Plainly, Planned}
 use Rattle.rs_statement.specs.declared.sampling.Sampling.TheVariants.{ByGuesses, ByScores}
+use Rattle.rs_statement.specs.Lines.{rank_lines}
 use Rattle.rs_statement.specs.Planned.{asks_in_all, cards_for, planned_step}
 use Rattle.rs_statement.specs.Sampled.{sample_step}
 use Rattle.rs_events.specs.Sequence.{silent}
@@ -173,10 +176,21 @@ select_one : syntax.Query
 unfolding select
 select_one = record select { limit = Some (pos 1, record { start = 136; end = 137 }) }
 
+-- the lines of its answer are those that are put
+answers_each_row : (bound : Query) → bound_query (made_of (codes "v\n3\n10\n")) select ≡ Ok bound
+    → rank_lines 1 (answer_of answer (made_of (codes "v\n3\n10\n")) bound (all_rows (made_of (codes "v\n3\n10\n")) bound)) ≡ codes "1,10,10\n" ∷ codes "2,3,3\n" ∷ []
+unfolding create_table create_predicate select answer call csv_on_literals digits chars is_utf8 encode_utf8 escaped fields_text is_blank made_of
+answers_each_row bound is = subst (λ query. rank_lines 1 (answer_of answer (made_of (codes "v\n3\n10\n")) query (all_rows (made_of (codes "v\n3\n10\n")) query)) ≡ codes "1,10,10\n" ∷ codes "2,3,3\n" ∷ []) (same_Ok _ bound is) refl
+
 -- behind as many rows as LIMIT says nothing is asked
 asks_no_more : (bound : Query) → bound_query (made_of (codes "v\n10\n40\n5\n")) select_one ≡ Ok bound → planned_step (world_of (made_of (codes "v\n10\n40\n5\n")) answer bound) (Rank 1 (SeqScan 1)) ≡ record { events = Score (call (pos 10)) ∷ Put (codes "1,10,10\n") ∷ []; outcome = Ok (made_of (codes "v\n10\n40\n5\n")) }
 unfolding create_table create_predicate select answer call csv_on_literals digits chars is_utf8 encode_utf8 escaped fields_text is_blank select_one made_of
 asks_no_more bound is = subst (λ query. planned_step (world_of (made_of (codes "v\n10\n40\n5\n")) answer query) (Rank 1 (SeqScan 1)) ≡ record { events = Score (call (pos 10)) ∷ Put (codes "1,10,10\n") ∷ []; outcome = Ok (made_of (codes "v\n10\n40\n5\n")) }) (same_Ok _ bound is) refl
+
+answers_one_row : (bound : Query) → bound_query (made_of (codes "v\n10\n40\n5\n")) select_one ≡ Ok bound
+    → rank_lines 1 (answer_of answer (made_of (codes "v\n10\n40\n5\n")) bound (all_rows (made_of (codes "v\n10\n40\n5\n")) bound)) ≡ codes "1,10,10\n" ∷ []
+unfolding create_table create_predicate select answer call csv_on_literals digits chars is_utf8 encode_utf8 escaped fields_text is_blank select_one made_of
+answers_one_row bound is = subst (λ query. rank_lines 1 (answer_of answer (made_of (codes "v\n10\n40\n5\n")) query (all_rows (made_of (codes "v\n10\n40\n5\n")) query)) ≡ codes "1,10,10\n" ∷ []) (same_Ok _ bound is) refl
 
 -- by the index of its one term a query makes no call but those of its sample
 asks_by_an_index : (bound : Query) → bound_query (indexed_of (codes "v\n3\n10\n")) select ≡ Ok bound → planned_step (world_of (indexed_of (codes "v\n3\n10\n")) answer bound) (RankScan 1 1 0) ≡ record { events = Put (codes "1,10,10\n") ∷ Put (codes "2,3,3\n") ∷ []; outcome = Ok (indexed_of (codes "v\n3\n10\n")) }

@@ -23,7 +23,7 @@ use Rattle.rs_statement.specs.declared.fault.SessionFault.TheVariants as session
 use Rattle.rs_statement.specs.declared.script_fault.ScriptFault.{ScriptFault}
 use Rattle.rs_statement.specs.declared.script_fault.ScriptFault.TheVariants as script
 
--- the fault of a run whose script the lexer refuses, or the parser
+-- the fault of a run whose script the lexer refuses, or the parser. Want of memory is none of a script
 abbrev pub lex_fault : LexFault → Fault
 lex_fault lex.Memory = fault.Memory
 lex_fault (lex.BadByte at) = fault.Script (script.Lex (lex.BadByte at))
@@ -71,7 +71,7 @@ table_text table.Memory = codes "memory"
 table_text table.NoColumn = codes "NoColumn"
 table_text (table.TooManyColumns found) = codes "TooManyColumns found " ++ decimal found
 
--- why a script has no tokens
+-- why a script has no tokens. Want of memory has a text too, though no fault of a run is such
 abbrev pub lex_text : LexFault → List ℕ
 lex_text (lex.BadByte at) = codes "BadByte at " ++ decimal at
 lex_text (lex.OpenText at) = codes "OpenText at " ++ decimal at
@@ -79,7 +79,7 @@ lex_text (lex.NumberTooWide at) = codes "NumberTooWide at " ++ decimal at
 lex_text (lex.TooManyTokens at) = codes "TooManyTokens at " ++ decimal at
 lex_text lex.Memory = codes "memory"
 
--- why tokens are no statements
+-- why tokens are no statements, and the same of want of memory
 abbrev pub parse_text : SyntaxFault → List ℕ
 parse_text (syntax.Expected at) = codes "Expected at " ++ decimal at
 parse_text (syntax.TooDeep at) = codes "TooDeep at " ++ decimal at

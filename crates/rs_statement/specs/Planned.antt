@@ -73,6 +73,7 @@ ask_count (Some limit) rows = min limit (suc rows)
 abbrev pub asks_in_all : World → PlanTree → ℕ
 asks_in_all w tree = ask_count (limit_of w.query) (length (list_of_plan w tree))
 
+-- a query by its plan: all these asks, one after another, up to the first fault
 abbrev pub planned_step : World → PlanTree → Step CatalogDef
 planned_step w tree = asks_from w tree 0 (asks_in_all w tree)
 

@@ -112,6 +112,7 @@ opened_step Plainly answer name state query =
 opened_step (Planned sampling) answer name state query =
     then_step (sample_step state.catalogue sampling query) (still (Ok (with_cursor name (ByPlan query (plan_for answer state.catalogue sampling query) (sizes_in state.catalogue)) state)))
 
+-- what DECLARE does: the cursor is opened, or the statement is refused
 abbrev pub declare_step : Evaluating → Answering → State → Name → syntax.Query → Step State
 declare_step evaluating answer state name query =
     refused_or (opened_step evaluating answer name.text state) (declared_query state name query)
@@ -154,6 +155,7 @@ fetched_cursor state count name = do
   cursor ← cursor_named name.text state.cursors
   Ok (cursor, wanted)
 
+-- what FETCH does: rows are put, or the statement is refused
 abbrev pub fetch_step : Answering → State → ℤ × Span → Name → Step State
 fetch_step answer state count name = refused_or (fetched_step answer state) (fetched_cursor state count name)
 

@@ -73,7 +73,17 @@ fn read_table<F: Files, T: TableReader>(
     }
 }
 
-/// Makes a table of a file. Names and types count first, then whether there is room for the name.
+/// Makes a table of a file. Names and types count first, then whether there is room for the name. Then the file is fetched, once.
+///
+/// # Errors
+///
+/// - `Script`: exactly where the statement breaks a rule of names and types, or the catalogue has no room for its name;
+///   nothing is fetched then.
+/// - `Read`: where the files tell what they hold, `Missing` exactly where they have none of the name, and `TooLong` exactly
+///   where it has more than 33,554,432 bytes; `Failed` only where their count of faults rose.
+/// - `Table`: exactly where the file is no table of these columns, with what `Table::read` of rs_table tells.
+/// - `Memory`: at any time, in place of what else would come.
+/// - `Write`, `BadScore`, `Probe`, `Session`: never.
 pub fn create_table<F: Files, T: TableReader>(
     alloc: Global,
     name: &Name,
@@ -113,6 +123,12 @@ fn roomy_predicate(
 }
 
 /// Makes a predicate. Names and types count first, then whether there is room for the name.
+///
+/// # Errors
+///
+/// - `Script`: exactly where the statement breaks a rule of names and types, or the catalogue has no room for its name.
+/// - `Memory`: at any time, in place of what else would come.
+/// - `Read`, `Write`, `Table`, `BadScore`, `Probe`, `Session`: never.
 pub fn create_predicate(
     alloc: Global,
     name: &Name,
@@ -146,7 +162,18 @@ fn roomy_index(
     Ok(def)
 }
 
-/// Makes a rank index. Names and types count first, then whether there is room for the name, and then the scores.
+/// Makes a rank index. Names and types count first, then whether there is room for the name. Then come the calls, one a row in the order of
+/// the rows.
+///
+/// # Errors
+///
+/// - `Script`: exactly where the statement breaks a rule of names and types, or the catalogue has no room for its name;
+///   nobody is called then.
+/// - `BadScore`: exactly at the first row for which a number outside 0 to the predicate's MAX is answered, unless
+///   `Probe` or `Memory` came before.
+/// - `Probe`: only where the last call that was made failed; the scorer's count of faults rose.
+/// - `Memory`: at any time, in place of what else would come.
+/// - `Read`, `Write`, `Table`, `Session`: never.
 pub fn create_index<S: Scorer>(
     alloc: Global,
     name: &Name,

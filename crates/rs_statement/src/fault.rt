@@ -135,6 +135,10 @@ impl From<BindFault> for Fault {
 
 impl Fault {
     /// The fault's line for standard error, ended by a line feed.
+    ///
+    /// # Errors
+    ///
+    /// - `Memory`: at any call.
     pub fn line(&self, alloc: Global) -> Result<String, Memory>
         ensures { IfOk result (λ line. string_bytes line ≡ fault_line self.now) }
     {

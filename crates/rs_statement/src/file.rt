@@ -9,6 +9,13 @@ use rs_value::Text;
 use std::alloc::Global;
 
 /// The bytes of the file of this name, which are at most `limit`.
+///
+/// # Errors
+///
+/// - `Read`: where the files tell what they hold, `Missing` exactly where they have none of the name, and `TooLong` exactly
+///   where it has more bytes than the limit; `Failed` only where their count of faults rose.
+/// - `Memory`: at any time, in place of what else would come.
+/// - `Write`, `Table`, `BadScore`, `Probe`, `Script`, `Session`: never.
 pub fn fetch_file<F: Files>(
     alloc: Global,
     file: &Text,

@@ -38,6 +38,15 @@ fn bound_rows(
 
 /// Puts the rows of an INSERT behind those of their table, and into its rank indexes. Names and types count first, and then
 /// the scores of the new rows, index by index. After a fault nothing has joined.
+///
+/// # Errors
+///
+/// - `Script`: exactly where the statement breaks a rule of names and types; nobody is called then.
+/// - `BadScore`: exactly at the first call whose answer lies outside 0 to the predicate's MAX, unless `Probe` or
+///   `Memory` came before.
+/// - `Probe`: only where the last call that was made failed; the scorer's count of faults rose.
+/// - `Memory`: at any time, in place of what else would come.
+/// - `Read`, `Write`, `Table`, `Session`: never.
 pub fn insert_rows<S: Scorer>(
     alloc: Global,
     statement: &Statement,

@@ -2,7 +2,8 @@
 //! a query, or opens, asks or closes a cursor. It says with which faults runs end, too.
 //!
 //! Its promise: a statement's fetches, calls and puts, in order, the catalogue and open cursors that it leaves, or the
-//! fault that ends the run, are as defined; so are the line and the status of each fault.
+//! fault that ends the run, are as defined; so is the line of each fault. A fault ends the run: no clause says what the catalogue and the
+//! cursors are behind one, but for INSERT, which leaves the catalogue as it was.
 #![tactic(auto)]
 
 mod analyzed;
@@ -27,7 +28,10 @@ pub use evaluating::Evaluating;
 pub use fault::{Fault, SessionFault, index_fault, only_row};
 pub use file::{fetch_file, table_fault};
 pub use insert::insert_rows;
-pub use laws::{guesses_call_nobody, queries_put_the_first_lines_of_their_answers};
+pub use laws::{
+    guesses_call_nobody, queries_put_all_lines_of_their_answers,
+    queries_put_the_first_lines_of_their_answers,
+};
 pub use put::put_rows;
 pub use query::query_fault;
 pub use sampling::Sampling;

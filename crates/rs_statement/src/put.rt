@@ -13,6 +13,12 @@ use rs_rank::Answer;
 use std::alloc::Global;
 
 /// Puts the lines of rows, ranked behind this many that were given before them, each in one put before the next row is looked at.
+///
+/// # Errors
+///
+/// - `Write`: only where a put failed; standard output's count of faults rose.
+/// - `Memory`: at any time, in place of what else would come.
+/// - `Read`, `Table`, `BadScore`, `Probe`, `Script`, `Session`: never.
 pub fn put_rows<O: Sink>(
     alloc: Global,
     given: usize,
@@ -29,7 +35,8 @@ pub fn put_rows<O: Sink>(
     Ok(())
 }
 
-/// Puts the line of a row that has this rank, which `lines` makes. It is kept from row to row. Each rank that is printed is put here.
+/// Puts the line of a row that has this rank, which `lines` makes. It is kept from row to row. Each rank that is printed is put here, so
+/// none is above 2^103 + 1.
 pub fn put_row<O: Sink>(
     lines: &mut RowLines,
     rank: u128,

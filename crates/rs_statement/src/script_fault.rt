@@ -26,6 +26,10 @@ pub enum ScriptFault {
 
 impl ScriptFault {
     /// What is told of the fault.
+    ///
+    /// # Errors
+    ///
+    /// - `Memory`: at any call.
     pub fn text(&self, alloc: Global) -> Result<String, Memory>
         ensures { IfOk result (λ text. string_bytes text ≡ script_text self.now) }
     {

@@ -18,7 +18,18 @@ use rs_events::Host;
 use rs_syntax::Select;
 use std::alloc::Global;
 
-/// Prints the rows of a query.
+/// Prints the rows of a query. Plainly it makes all its calls, and then one put for each row. By a plan it makes the calls of the sample,
+/// and then for each ask the calls of this ask and the put of its row.
+///
+/// # Errors
+///
+/// - `Script`: exactly where the query breaks a rule of names and types; nobody is called then.
+/// - `BadScore`: exactly at the first call behind those of the sample whose answer lies outside 0 to the predicate's
+///   MAX, unless another fault came before. A number of the sample is put into that range.
+/// - `Probe`: only where the last call that was made failed; the scorer's count of faults rose.
+/// - `Write`: only where a put failed; standard output's count of faults rose.
+/// - `Memory`: at any time, in place of what else would come.
+/// - `Read`, `Table`, `Session`: never.
 pub fn run_select<W: Host>(
     alloc: Global,
     evaluating: Evaluating,
@@ -37,7 +48,16 @@ pub fn run_select<W: Host>(
     }
 }
 
-/// EXPLAIN. Plainly, the query is bound, and nothing is told of it.
+/// EXPLAIN. By a plan it makes the calls of the sample, and puts the text of the plan in one put. Plainly, the query is bound, and nothing
+/// is told of it.
+///
+/// # Errors
+///
+/// - `Script`: exactly where the query breaks a rule of names and types; nobody is called then.
+/// - `Probe`: only where the last call that was made failed; the scorer's count of faults rose.
+/// - `Write`: only where a put failed; standard output's count of faults rose.
+/// - `Memory`: at any time, in place of what else would come.
+/// - `Read`, `Table`, `BadScore`, `Session`: never.
 pub fn run_explain<W: Host>(
     alloc: Global,
     evaluating: Evaluating,
@@ -55,7 +75,18 @@ pub fn run_explain<W: Host>(
     }
 }
 
-/// EXPLAIN ANALYZE. Plainly, the query is bound, and nothing is told of it.
+/// EXPLAIN ANALYZE. By a plan it makes the calls of the sample and those of all asks that the query wants, puts no row, and puts the text of
+/// the plan, with what each node has done by then, in one put. Plainly, the query is bound, and nothing is told of it.
+///
+/// # Errors
+///
+/// - `Script`: exactly where the query breaks a rule of names and types; nobody is called then.
+/// - `BadScore`: exactly at the first call behind those of the sample whose answer lies outside 0 to the predicate's
+///   MAX, unless another fault came before. A number of the sample is put into that range.
+/// - `Probe`: only where the last call that was made failed; the scorer's count of faults rose.
+/// - `Write`: only where a put failed; standard output's count of faults rose.
+/// - `Memory`: at any time, in place of what else would come.
+/// - `Read`, `Table`, `Session`: never.
 pub fn run_analyze<W: Host>(
     alloc: Global,
     evaluating: Evaluating,

@@ -80,7 +80,20 @@ pub fn release(catalog: Catalog, session: Session) {
     drop(catalog);
 }
 
-/// DECLARE: opens a cursor over the rows of a query. Nothing is put.
+/// DECLARE: opens a cursor over the rows of a query, behind the others. Nothing is put. By a plan it makes the calls of the sample, and
+/// plainly all calls of the query. The catalogue then has the tables and the predicates of each open cursor that is asked by a plan, with
+/// the rows that it sees.
+///
+/// # Errors
+///
+/// - `Script`: exactly where the query breaks a rule of names and types; nobody is called then.
+/// - `Session`: behind the rules of the query, `NameTaken` exactly where a cursor of the name is open, and `Full`
+///   exactly where 64 are open and the name is free; nobody is called then.
+/// - `BadScore`: plainly, exactly at the first call whose answer lies outside 0 to the predicate's MAX, unless `Probe`
+///   or `Memory` came before; by a plan never.
+/// - `Probe`: only where the last call that was made failed; the scorer's count of faults rose.
+/// - `Memory`: at any time, in place of what else would come.
+/// - `Read`, `Write`, `Table`: never.
 pub fn declare<S: Scorer>(
     alloc: Global,
     evaluating: Evaluating,
@@ -246,7 +259,19 @@ fn insert(session: &mut Session, name: Text, held: CursorRows) -> Result<(), Mem
     }
 }
 
-/// FETCH: puts the next rows of a cursor, at most this many. Ranks go on from the FETCH before it.
+/// FETCH: puts the next rows of a cursor, at most this many, by the calls of these asks alone, each row before the next ask. Ranks go on
+/// from the FETCH before it. All other cursors stay as they are.
+///
+/// # Errors
+///
+/// - `Script`: exactly where the number of FETCH lies outside 0 to 1,000,000.
+/// - `Session`: behind the number, `Unknown` exactly where no cursor of the name is open.
+/// - `BadScore`: exactly at the first call whose answer lies outside 0 to the predicate's MAX, unless another fault
+///   came before.
+/// - `Probe`: only where the last call that was made failed; the scorer's count of faults rose.
+/// - `Write`: only where a put failed; standard output's count of faults rose.
+/// - `Memory`: at any time, in place of what else would come.
+/// - `Read`, `Table`: never.
 pub fn fetch<W: Host>(
     alloc: Global,
     count: &(i64, Span),
@@ -353,6 +378,12 @@ fn fetch_ready<O: Sink>(
 }
 
 /// CLOSE: the name of a cursor is free again.
+///
+/// # Errors
+///
+/// - `Session`: `Unknown` exactly where no cursor of the name is open.
+/// - `Memory`: at any time, in place of what else would come.
+/// - `Read`, `Write`, `Table`, `BadScore`, `Probe`, `Script`: never.
 pub fn close(name: &Name, session: &mut Session) -> Result<(), Fault>
     ensures closes { (catalogue : CatalogDef) → Leaves (close_outcome (state_of catalogue (held_in session.old)) name.now) (state_of catalogue (held_in session.new)) result }
     ensures asked { (answer : Answering) (catalogue : CatalogDef) → CanAllBeAsked answer catalogue (held_in session.old)

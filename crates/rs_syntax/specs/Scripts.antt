@@ -30,6 +30,7 @@ abbrev pub byte_in : List ℕ → List Lexeme → ℕ
 byte_in text [] = length text
 byte_in text (l ∷ ls) = l.at.start
 
+-- the byte at which a token starts; behind the last one, the length of the script
 abbrev pub byte_at : List ℕ → List Token → ℕ → ℕ
 byte_at text tokens at = byte_in text (drop at (lexemes_of text tokens))
 

@@ -208,6 +208,7 @@ statement_in (That (That (That (That (That (This t)))))) = explain_of t
 statement_in (That (That (That (That (That (That t)))))) = insert_of t
 statement_in t = close_of t
 
+-- the statement that a tree stands for, with all places, weights, costs and groupings
 abbrev pub statement_of : Tree → Command
 statement_of t = statement_in (inside t)
 

@@ -48,6 +48,7 @@ pub record Query : Type 0 where
   pub terms : List TermSyn
   pub limit : Option (ℤ × Span)
 
+-- a statement
 pub data Command : Type 0 where
   CreateTable : Name → List (Name × Kind) → List ℕ → Command
   CreatePredicate : Name → List (Name × Kind) → ℤ × Span → Option (ℤ × Span) → Expression → Command

@@ -18,7 +18,19 @@ use rs_lex::Token;
 use rs_value::Text;
 use std::alloc::Global;
 
-/// The statements that the tokens of a script parse to, all of them, in their order.
+/// The statements that the tokens of a script parse to, all of them, in their order, with all places, weights, costs
+/// and groupings. Tokens parse to one list at most: that is answered where nothing is wrong with them, and else the
+/// first thing that is wrong. A table has a column, a predicate a parameter, a block a FROM entry, an INSERT a row and
+/// a row a cell, and numbers among arguments and cells are in range.
+///
+/// # Errors
+///
+/// - `Expected`: exactly where the first thing wrong is a token, or the end, with which the tokens in front of it are the
+///   beginning of no script, unless it is a word that isn't part of this language.
+/// - `NotInProfile`: exactly where it is such a word.
+/// - `TooDeep`: exactly where it is the 257th token of a statement that counts towards its depth.
+/// - `TooManyStatements`: exactly where it is a token behind the `;` that ends statement 1,000.
+/// - `Memory`: at any call, in place of each answer.
 pub fn parse(alloc: Global, script: &Text, tokens: &[Token]) -> Result<Vec<Statement>, SyntaxFault>
     requires spelled { Spells 0 script.now tokens.now }
     requires small { length script.now ≤ 1048576 }

@@ -17,4 +17,5 @@ pub mod SeenFacts
 pub mod SightFacts
 pub mod SumFacts
 pub mod TermFacts
+pub mod UnaccessedFacts
 pub mod Worked

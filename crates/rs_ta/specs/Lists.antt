@@ -50,6 +50,10 @@ pub record ListsState : Type 0 where
   pub sorted_count : ℕ → ℕ
   pub random_count : ℕ → ℕ
 
+-- no list was accessed
+abbrev pub AreUnaccessed : ListsState → Type 0
+AreUnaccessed state = (number : ℕ) → (state.sorted_count number ≡ 0) × (state.random_count number ≡ 0)
+
 -- the score and the row of an entry
 abbrev pub pair_of : ScoredRow → ℕ × ℕ
 pair_of e = (e.score, e.row)

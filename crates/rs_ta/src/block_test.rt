@@ -1,7 +1,8 @@
-ghost use Rattle.std.specs.Prelude.{◌≡◌, length};
+ghost use Rattle.std.specs.Prelude.{◌≡◌, IfOk, IsOk, length};
 ghost use Rattle.rs_query.specs.Tables.{size_of};
 ghost use Rattle.rs_query.specs.WellFormed.{IsBlock};
 ghost use Rattle.rs_ta.specs.BlockTests.{holds_on};
+ghost use Rattle.rs_ta.specs.Lists.{IsRow};
 
 use crate::row_test::RowTest;
 use rs_catalog::{Catalog, Snapshot};
@@ -48,7 +49,11 @@ impl<'a> RowTest for BlockTest<'a> {
     ghost truth = { λ test. holds_on test.catalogue test.block };
 
     /// It takes no memory.
-    fn holds(&self, row: u32) -> Result<bool, Memory> {
+    fn holds(&self, row: u32) -> Result<bool, Memory>
+        requires { IsRow (size_of self.now.catalogue self.now.block 1) row }
+        ensures truth { IfOk result (λ holds. holds ≡ holds_on self.now.catalogue self.now.block row) }
+        ensures given { IsOk result }
+    {
         let ids = Ids {
             block: 1,
             mask: 1,

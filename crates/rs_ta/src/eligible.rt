@@ -6,8 +6,13 @@ use rs_query::{Block, Term};
 use rs_value::Memory;
 use std::alloc::Global;
 
-/// The rank indexes by which a threshold scan answers a block, one for each of its terms. There are none where the block isn't
-/// eligible: where it is DISTINCT, has several FROM entries, or a term has no rank index.
+/// The rank indexes by which a threshold scan answers a block, one for each of its terms, in their order, where it is eligible.
+///
+/// # Errors
+///
+/// - `None`: exactly where the block isn't eligible: where it is DISTINCT, hasn't just one FROM entry, has no term, or has a term
+///   without a rank index.
+/// - `Memory`: at any call.
 pub fn eligible_indexes(
     alloc: Global,
     catalog: &Catalog,

@@ -1,5 +1,5 @@
 ghost use Rattle.std.specs.Prelude.{◌≡◌, ◌-◌, ◌^◌, length, min};
-ghost use Rattle.rs_ta.specs.Lists.{total};
+ghost use Rattle.rs_ta.specs.Lists.{AreUnaccessed, total};
 ghost use Rattle.rs_ta.specs.IndexLists.{AreOfOneTable, AreRankings, index_lists_state, new_index_lists};
 
 use crate::access_counts::{raise, sum_of};
@@ -34,7 +34,8 @@ impl<'a> IndexLists<'a> {
     /// The lists of the indexes of these numbers, in this order, of which none was accessed. It takes no memory.
     pub fn new(catalog: &'a Catalog, indexes: Vec<u8>) -> IndexLists<'a>
         requires { AreOfOneTable catalog.now indexes.items }
-        ensures { result ≡ new_index_lists catalog.now indexes.items }
+        ensures value { result ≡ new_index_lists catalog.now indexes.items }
+        ensures unaccessed { AreUnaccessed (index_lists_state result) }
     {
         let rows = rows_of(catalog, indexes.as_slice());
         IndexLists {

@@ -2,8 +2,8 @@
 //! aggregation algorithms for middleware, PODS 2001), with sorted and random accesses, each counted.
 //!
 //! Its promise: a scan gives the rows for which a test holds by falling sums, and makes exactly the accesses that the answers take:
-//! how deep it goes into each list, and which rows it looks up, is defined over the finished lists alone. Over the rank indexes of an
-//! eligible block its rows are the answer of the block.
+//! how deep it goes into each list, and which rows it looks up, is defined over the finished lists and the rows for which the test holds,
+//! and nothing else. Over the rank indexes of an eligible block its rows are the answer of the block.
 #![tactic(auto)]
 
 mod access_counts;

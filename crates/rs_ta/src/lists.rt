@@ -15,6 +15,10 @@ pub trait Lists {
         ensures ranked { AreRanked (state self.now).lists };
 
     /// The score and the row at the next place of a list, or none at its end, which isn't counted.
+    ///
+    /// # Errors
+    ///
+    /// - `None`: exactly at the end of the list.
     fn sorted(&mut self, list: u8) -> Option<(u32, u32)>
         requires { IsList (state self.old).lists list }
         ensures entry { result ≡ next_entry (state self.old) list }

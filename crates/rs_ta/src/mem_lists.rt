@@ -1,5 +1,5 @@
 ghost use Rattle.std.specs.Prelude.{◌≡◌, [], ◌∷◌, ◌-◌, ◌^◌, length, map, min, slice_get};
-ghost use Rattle.rs_ta.specs.Lists.{AreRanked, score_of, total};
+ghost use Rattle.rs_ta.specs.Lists.{AreRanked, AreUnaccessed, score_of, total};
 ghost use Rattle.rs_ta.specs.MemLists.{entry_of, lists_state, scored_lists};
 
 use crate::access_counts::{raise, sum_of};
@@ -29,11 +29,12 @@ impl MemLists {
     /// The lists, of which none was accessed. It takes no memory.
     pub fn new(lists: Vec<Vec<(u32, u32)>>) -> MemLists
         requires { AreRanked (scored_lists lists.items) }
-        ensures { result ≡ record {
+        ensures value { result ≡ record {
           lists = scored_lists lists.items;
           sorted = 0 ∷ 0 ∷ 0 ∷ 0 ∷ 0 ∷ 0 ∷ 0 ∷ 0 ∷ [];
           random = 0 ∷ 0 ∷ 0 ∷ 0 ∷ 0 ∷ 0 ∷ 0 ∷ 0 ∷ [];
         } }
+        ensures unaccessed { AreUnaccessed (lists_state result) }
     {
         MemLists {
             lists,

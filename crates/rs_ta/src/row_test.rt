@@ -12,6 +12,10 @@ pub trait RowTest {
     ghost truth: { Self → ℕ → Bool };
 
     /// Whether it holds for a row.
+    ///
+    /// # Errors
+    ///
+    /// - `Memory`: at any call.
     fn holds(&self, row: u32) -> Result<bool, Memory>
         requires { IsRow (rows self.now) row }
         ensures { IfOk result (λ holds. holds ≡ truth self.now row) };

@@ -18,8 +18,9 @@ use std::marker::Model;
 /// score first, and at equal sums the first row.
 ///
 /// A round is one sorted access of each list. A row that is shown for the first time is looked up in all other lists by random
-/// accesses. The scan gives the first row that it holds once no other row can come before it: its key comes at or before the
-/// threshold of the last round. It knows no score but by an access.
+/// accesses, before its condition is tested: so the accesses are a function of the lists and of the depth alone. The scan gives the
+/// first row that it holds once its key comes at or before the threshold of the last round: no other row can come before it then. It
+/// knows no score but by an access.
 ///
 /// After a call that answered `Memory` it is spent, and no further call is allowed.
 #[derive(Drop)]
@@ -83,8 +84,13 @@ impl ThresholdScan {
         self.rows.rounds()
     }
 
-    /// The next row of the answer with its sum, or none once all were given. The scan and the lists are to stand where the asks so far
-    /// left them, and each list is to have a weight.
+    /// The next row of the answer with its sum. The scan and the lists are to stand where the asks so far left them, and each list is
+    /// to have a weight.
+    ///
+    /// # Errors
+    ///
+    /// - `None`: exactly once all rows of the answer were given, and at each later call.
+    /// - `Memory`: at any call; the scan is spent from then on.
     pub fn next<L: Lists, T: RowTest>(
         &mut self,
         test: &T,

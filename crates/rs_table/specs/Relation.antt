@@ -5,6 +5,7 @@ use Rattle.rs_value.specs.Value.{fits}
 use Rattle.rs_value.specs.declared.value.Value.{Value}
 use Rattle.rs_table.specs.Column.{Column}
 
+-- a table as contracts see it: its columns, and its rows in the order of the file, later ones behind them
 pub record Relation : Type 0 where
   pub schema : List Column
   pub rows : List (List Value)

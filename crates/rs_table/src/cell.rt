@@ -14,6 +14,10 @@ pub enum Cell<'a> {
 
 impl Cell<'_> {
     /// The value of the cell. Only the copy of a text takes memory, on the text's own allocator.
+    ///
+    /// # Errors
+    ///
+    /// - `Memory`: only where the cell is a text.
     pub fn copy(&self) -> Result<Value, Memory>
         ensures same { IfOk result (λ value. value ≡ shown self.now) }
         ensures number { kind_of (shown self.now) ≡ kind.Int → IsOk result }

@@ -11,6 +11,11 @@ pub trait TableReader {
     ghost use Rattle.rs_table.specs.Reading.{table_of};
 
     /// The table of a CSV file, or why it is none, as `Table::read` says it.
+    ///
+    /// # Errors
+    ///
+    /// - Those of `Table::read`: exactly where it gives them of these bytes and columns, but for `Memory`, which may come at
+    ///   any call.
     fn read_table(
         &mut self,
         alloc: Global,

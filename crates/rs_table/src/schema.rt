@@ -48,6 +48,17 @@ impl Schema {
 
     /// The columns that the header of a CSV file names. The first one of the given name is of
     /// numbers, and the others are of texts.
+    ///
+    /// # Errors
+    ///
+    /// The first of these that holds, exactly where one does; only `Memory` may come in its place.
+    ///
+    /// - `NoHeader`: the file has no record.
+    /// - `TooManyColumns`: the header has more than 64 fields.
+    /// - `NotUtf8`: a field of the header isn't UTF-8. The row is 0, and the column that of the first such field.
+    /// - `NoColumn`: no field of the header is the given name.
+    /// - `Memory`: at any call.
+    /// - `HeaderDiffers`, `FieldCount`, `NotInt`, `TooManyRows`: never.
     pub fn of_header(alloc: Global, bytes: &[u8], column: &Text) -> Result<Schema, TableFault>
         requires { length bytes.now ≤ 33554432 }
         ensures gives { Gives TableFault.Memory (header_of column.now bytes.now) result }
@@ -62,6 +73,10 @@ impl Schema {
     }
 
     /// The place of the first column of this name, counted from 0.
+    ///
+    /// # Errors
+    ///
+    /// - `None`: exactly where no column has the name.
     pub fn place(&self, name: &Text) -> Option<u8>
         ensures { result ≡ place_of name.now self.now }
     {
@@ -70,6 +85,10 @@ impl Schema {
     }
 
     /// The same columns.
+    ///
+    /// # Errors
+    ///
+    /// - `Memory`: at any call.
     pub fn copy(&self) -> Result<Schema, Memory>
         ensures { IfOk result (λ copy. copy ≡ self.now) }
     {

@@ -53,6 +53,22 @@ impl Table {
     /// refuses the file is the answer: first the header, then row by row, and within a row its
     /// number, the number of its fields, and its cells from left to right. Texts are hashed by the
     /// keys, which the file is not to know: else it could make reading slow on purpose.
+    ///
+    /// # Errors
+    ///
+    /// The first thing in the order above that refuses the file, exactly where one does; only `Memory` may come in its
+    /// place.
+    ///
+    /// - `NoHeader`: the file has no record.
+    /// - `HeaderDiffers`: the first record isn't the names of the columns in their order. It tells the first place at which
+    ///   they differ; a place that only one of them has counts too.
+    /// - `TooManyRows`: there is a row 131,073.
+    /// - `FieldCount`: a row has more or fewer fields than there are columns.
+    /// - `NotInt`: a field of a column of numbers writes no whole number of a magnitude of at most
+    ///   4,000,000,000,000,000,000. One that isn't UTF-8 is this too.
+    /// - `NotUtf8`: a field of a column of texts isn't UTF-8.
+    /// - `Memory`: at any call.
+    /// - `NoColumn`, `TooManyColumns`: never.
     pub fn read(
         alloc: Global,
         hash_keys: RandomState,
@@ -71,6 +87,10 @@ impl Table {
     }
 
     /// The same table.
+    ///
+    /// # Errors
+    ///
+    /// - `Memory`: at any call.
     pub fn copy(&self) -> Result<Table, Memory>
         ensures { IfOk result (λ copy. copy ≡ self.now) }
     {
@@ -103,6 +123,10 @@ impl Table {
     }
 
     /// The value of a row, counted from 1, and a column, counted from 0. A number takes no memory.
+    ///
+    /// # Errors
+    ///
+    /// - `Memory`: only where the value is a text.
     pub fn value(&self, row: u32, column: u8) -> Result<Value, Memory>
         requires some_row { 1 ≤ row }
         requires row_in { row ≤ length self.now.rows }
@@ -146,7 +170,11 @@ impl Table {
         self.rows.text_number(row as usize - 1, column as usize)
     }
 
-    /// Puts rows behind those of the table, where there is memory for all of them. Else the table stays as it was.
+    /// Puts rows behind those of the table: all of them, or none.
+    ///
+    /// # Errors
+    ///
+    /// - `Memory`: at any call; the table stays as it was.
     pub fn add_rows(&mut self, rows: Vec<List<Value>>) -> Result<(), Memory>
         requires fit { AllByRecursion (λ row. row_fits self.old.schema row ≡ true) rows.items }
         requires few { length self.old.rows + length rows.items ≤ most_rows }

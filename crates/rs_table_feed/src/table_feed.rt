@@ -45,10 +45,12 @@ impl Model for TableFeed {
 }
 
 impl TableFeed {
-    /// The feed of a table whose columns are a TEXT and an INT, of which nothing is drawn. It takes no memory.
+    /// The feed of a table whose columns are a TEXT and an INT, of which nothing is drawn: its rows in their order,
+    /// each with the text by which it is joined and the number as its score. It takes no memory.
     ///
     /// # Errors
-    /// The first row whose number is no score.
+    ///
+    /// - `RangeFault`: exactly where a number lies outside 0 to 4,294,967,295, with the first such row.
     pub fn new(table: Table) -> Result<TableFeed, RangeFault>
         requires { HasFeedColumns table.schema }
         ensures value { MatchResult result (λ feed. feed_rows table ≡ Ok feed.rows) (λ fault. feed_rows table ≡ Err fault) }

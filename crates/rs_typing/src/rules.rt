@@ -263,6 +263,11 @@ fn narrow(formula: Expr, at: Span) -> Result<Typed, BindFault>
 }
 
 /// The formula of a part that has to be a number.
+///
+/// # Errors
+///
+/// - `At`: with `WrongKind` and the place, exactly where the part is no number.
+/// - `Memory`: never.
 pub fn number(part: Typed, at: Span) -> Result<Expr, BindFault>
     ensures { result_map formula_of result ≡ as_number at (typed_of part) }
 {
@@ -297,6 +302,11 @@ fn words(part: Typed, at: Span) -> Result<TextSide, BindFault>
 }
 
 /// The condition of a part that has to be a truth value.
+///
+/// # Errors
+///
+/// - `At`: with `WrongKind` and the place, exactly where the part is no truth value.
+/// - `Memory`: never.
 pub fn truth(part: Typed, at: Span) -> Result<Cond, BindFault>
     ensures { result_map condition_of result ≡ as_truth at (typed_of part) }
 {

@@ -21,6 +21,12 @@ pub trait Scope {
     /// The argument that a column stands for, or why it stands for none.
     ghost finds: { Self → ColRef → Result (ℕ × Kind) BindFault };
 
+    /// The number and the kind of the argument that a column stands for.
+    ///
+    /// # Errors
+    ///
+    /// - `At`: exactly where the column stands for none, with the rule that it breaks and its place.
+    /// - `Memory`: where the scope's definition says so, which none here does.
     fn find(&self, column: &ColRef) -> Result<(u16, Kind), BindFault>
         ensures { result ≡ finds self.now column.now };
 }

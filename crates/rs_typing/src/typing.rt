@@ -16,7 +16,13 @@ use rs_syntax::{ColRef, Node};
 use rs_value::Text;
 use std::alloc::Global;
 
-/// What an expression is, or the first rule that it breaks: that of a part, from left to right, before its own.
+/// What an expression is, or the first rule that it breaks: that of a part, from left to right, before its own. Each
+/// number in what is answered has a width.
+///
+/// # Errors
+///
+/// - `At`: exactly where a part breaks a rule, with the first one and its place.
+/// - `Memory`: at any call, in place of each answer.
 #[cycle(typing)]
 pub fn type_node<S: Scope>(alloc: Global, node: &Node, scope: &S) -> Result<Typed, BindFault>
     ensures gives { Gives BindFault.Memory (type_of (S.finds scope.now) (expression_of node.now)) (result_map typed_of result) }

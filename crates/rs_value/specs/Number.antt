@@ -13,7 +13,7 @@ abbrev pub are_digits : List ℕ → Bool
 are_digits [] = false
 are_digits (digit ∷ rest) = list_all is_ascii_digit (digit ∷ rest)
 
--- the number that digits write, where it is at most `most`
+-- the number that digits write, where there is at least one digit and nothing else, and it is at most `most`
 abbrev pub decimal_value : ℕ → List ℕ → Option ℕ
 decimal_value most digits = if are_digits digits && nat_le (number_of digits) most then Some (number_of digits) else None
 
@@ -21,7 +21,7 @@ decimal_value most digits = if are_digits digits && nat_le (number_of digits) mo
 abbrev pub greatest_int : ℕ
 greatest_int = 4000000000000000000
 
--- a number with an optional sign, within the range
+-- a number with an optional sign, `+` or `-`, of a magnitude of at most 4,000,000,000,000,000,000
 abbrev pub int_value : List ℕ → Option ℤ
 int_value [] = None
 int_value (first ∷ rest) =

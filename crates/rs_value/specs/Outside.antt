@@ -14,8 +14,8 @@ pub record Keeps {T : Type 0} (old new : Outside T) : Type 0 where
   pub grows : old.faults ≤ new.faults
   pub steady : new.steady ≡ old.steady
 
--- what one call does to the count, where the call failed if this fact holds: it rises where the call failed, and of a
--- steady object no call fails
+-- what one call does to the count, where the call failed if this fact holds: the count never falls, and rises where the
+-- call failed; whether the object is steady stays, and of a steady one no call fails
 pub record Counts {T : Type 0} (Failed : Type 0) (old new : Outside T) : Type 0 where
   pub keeps : Keeps old new
   pub failed : Failed → Rose old.faults new.faults

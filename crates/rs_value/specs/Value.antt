@@ -11,6 +11,7 @@ use Rattle.rs_value.specs.declared.kind.Kind.TheVariants as kind
 use Rattle.rs_value.specs.declared.value.Value.{Value}
 use Rattle.rs_value.specs.declared.value.Value.TheVariants.{Int, Text}
 
+-- the kind of a value
 abbrev pub kind_of : Value → Kind
 kind_of (Int n) = kind.Int
 kind_of (Text t) = kind.Text
@@ -20,14 +21,15 @@ abbrev pub printed : Value → List ℕ
 printed (Int n) = signed_decimal n
 printed (Text t) = t
 
--- numbers by size, texts lexicographically by bytes; values of different kinds are never compared
+-- numbers by size, texts lexicographically by bytes, where a prefix comes first; values of different kinds are never
+-- compared
 abbrev pub value_cmp : Value → Value → Ordering
 value_cmp (Int a) (Int b) = int_cmp a b
 value_cmp (Text a) (Text b) = slice_cmp nat_cmp a b
 value_cmp (Int a) (Text b) = Less
 value_cmp (Text a) (Int b) = Greater
 
--- a value is of this kind, and a number is in range
+-- a value is of this kind, and a number has a magnitude of at most 4,000,000,000,000,000,000
 abbrev pub fits : Kind → Value → Bool
 fits kind.Int (Int n) = nat_le (nat_abs n) greatest_int
 fits kind.Int (Text t) = false

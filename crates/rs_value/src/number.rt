@@ -9,6 +9,10 @@ const _: () = prove!(GREATEST_INT <= i64::MAX as u64 / 2);
 
 /// The number that decimal digits write, where it is at most `most`: one or more digits, and nothing else.
 /// Leading zeros are allowed, any number of them.
+///
+/// # Errors
+///
+/// - `None`: exactly where there is no byte, a byte is no decimal digit, or the number is greater than `most`.
 pub fn decimal_of(digits: &[u8], most: u64) -> Option<u64>
     ensures { result ≡ decimal_value most digits.now }
 {
@@ -30,6 +34,10 @@ pub fn decimal_of(digits: &[u8], most: u64) -> Option<u64>
 
 /// The number of a cell: an optional `+` or `-`, then one or more decimal digits, from
 /// -4,000,000,000,000,000,000 to 4,000,000,000,000,000,000.
+///
+/// # Errors
+///
+/// - `None`: exactly where the bytes have another form, or the number lies outside this range.
 pub fn int_of(bytes: &[u8]) -> Option<i64>
     ensures value { result ≡ int_value bytes.now }
     ensures in_range { IfSome result (λ n. nat_abs n ≤ greatest_int) }

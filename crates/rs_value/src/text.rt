@@ -56,6 +56,11 @@ impl Error for TextFault {}
 impl Text {
     /// The text of these bytes, which are copied. UTF-8 is that of RFC 3629: no surrogates, no over-long forms,
     /// nothing above U+10FFFF.
+    ///
+    /// # Errors
+    ///
+    /// - `NotUtf8`: exactly where the bytes aren't UTF-8, with the length of the longest prefix that is.
+    /// - `Memory`: at any call, in place of each answer.
     pub fn from_bytes(alloc: Global, bytes: &[u8]) -> Result<Text, TextFault>
         ensures { Gives TextFault.Memory (text_of bytes.now) result }
     {
@@ -86,6 +91,10 @@ impl Text {
     }
 
     /// An equal text, on the same allocator.
+    ///
+    /// # Errors
+    ///
+    /// - `Memory`: at any call.
     pub fn copy(&self) -> Result<Text, Memory>
         ensures { IfOk result (λ text. text ≡ self.now) }
     {

@@ -31,6 +31,10 @@ impl Value {
     }
 
     /// An equal value. Only the copy of a text takes memory, on the text's own allocator.
+    ///
+    /// # Errors
+    ///
+    /// - `Memory`: at any copy of a text; never at that of a number.
     pub fn copy(&self) -> Result<Value, Memory>
         ensures same { IfOk result (λ value. value ≡ self.now) }
         ensures number { kind_of self.now ≡ kind.Int → IsOk result }
@@ -54,6 +58,10 @@ impl Value {
     }
 
     /// Appends the decimal number, with `-` before a negative one, or the bytes of the text as they are.
+    ///
+    /// # Errors
+    ///
+    /// - `Memory`: at any call; the buffer is as before.
     pub fn print(&self, into: &mut Vec<u8>) -> Result<(), Memory>
         ensures ok { OnOk result (into.new.items ≡ into.old.items ++ printed self.now) }
         ensures err { OnErr result (into.new.items ≡ into.old.items) }

@@ -2,6 +2,7 @@ mod WorkedViews
 pub mod CallFacts
 pub mod FirstFacts
 pub mod GrowFacts
+pub mod LifeFacts
 pub mod MergeFacts
 pub mod RowFacts
 pub mod SplitFacts

@@ -47,6 +47,14 @@ impl Model for View {
 impl View {
     /// The view of a query of one block without DISTINCT, over all rows that its tables have. The scorer is called as for the whole
     /// answer: for every combination in lexicographic order, and for each for the terms in order, up to the first fault.
+    ///
+    /// # Errors
+    ///
+    /// - `BadScore`: exactly at the first call whose answer lies outside 0 to the predicate's MAX, unless `Probe` or
+    ///   `Memory` came before.
+    /// - `Probe`: only where the last call that was made failed; the scorer's count of faults rose.
+    /// - `Memory`: at any time, but not behind an answer outside that range. Then the calls that were made are the
+    ///   first ones, in their order.
     pub fn make<S: Scorer>(
         alloc: Global,
         catalog: &Catalog,
@@ -73,7 +81,15 @@ impl View {
 
     /// Brings the rows up to date with the tables. The scorer is called for the combinations alone that have a row behind those of
     /// before, in lexicographic order, and for each for the terms in order, up to the first fault. After a fault the view is as it
-    /// was.
+    /// was, and stands as before.
+    ///
+    /// # Errors
+    ///
+    /// - `BadScore`: exactly at the first call whose answer lies outside 0 to the predicate's MAX, unless `Probe` or
+    ///   `Memory` came before.
+    /// - `Probe`: only where the last call that was made failed; the scorer's count of faults rose.
+    /// - `Memory`: at any time, but not behind an answer outside that range. Then the calls that were made are the
+    ///   first ones, in their order.
     pub fn grow<S: Scorer>(
         &mut self,
         alloc: Global,

@@ -1,6 +1,7 @@
 pub mod RunFacts
 pub mod CallFacts
 pub mod FeedingFacts
+pub mod DrawingFacts
 pub mod FaultFacts
 pub mod CertifyFacts
 pub mod VerdictFacts

@@ -45,6 +45,7 @@ unfoldable pub certified_behind : List FeedRow → List FeedRow → ℕ → ℕ 
 certified_behind lefts rights count n zero = Ok (cert_after lefts rights count n (asks_of_rows (cut lefts) (cut rights) n))
 certified_behind lefts rights count n (suc more) = certified_after lefts rights count n (next_answer lefts rights n) (certified_behind lefts rights count (suc n) more)
 
+-- the same from the first pair on
 abbrev pub certified : List FeedRow → List FeedRow → ℕ → Result Cert WordFault
 certified lefts rights count = certified_behind lefts rights count 0 count
 
@@ -70,6 +71,6 @@ bytes_run (Err fault) = fails fault
 abbrev pub joined_cert_run : List FeedRow → List FeedRow → ℕ → Run WordFault
 joined_cert_run lefts rights count = bytes_run (joined_bytes lefts rights count)
 
--- the run of the word
+-- the run of the word: both files are fetched as for `feed`, and then the certificate is put, in one put
 abbrev pub IsCertRun : Finds → FeedWords → Run WordFault → Type 0
 IsCertRun finds words run = IsTwoFeedsRun joined_cert_run finds words run

@@ -34,7 +34,8 @@ abbrev pub IsReadRun : Result (List ℕ) WordFault → Run WordFault → Type 0
 IsReadRun (Err fault) run = run ≡ fails fault
 IsReadRun (Ok bytes) run = IsCheckedRun bytes run
 
--- the run of the word
+-- the run of the word: the file is fetched, and then the verdict is put, or the first record is told with which no
+-- certificate begins
 abbrev pub IsCheckRun : Finds → List ℕ → Run WordFault → Type 0
 IsCheckRun finds file run =
     (there : Option (List ℕ)) × finds file there × (more : Run WordFault) × IsReadRun (or_read 1 (fetched_bytes file_limit there)) more × (run ≡ behind (Fetch file ∷ []) more)

@@ -24,7 +24,7 @@ rows_in file bytes = do
   table ← or_table file (table_of feed_columns bytes)
   or_range file (feed_rows table)
 
--- the rows of a file that is there or isn't
+-- the rows of a file that is there or isn't, or the first thing that refuses it
 abbrev pub feed_file : ℕ → Option (List ℕ) → Result (List FeedRow) WordFault
 feed_file file there = or_read file (fetched_bytes file_limit there) >>= rows_in file
 

@@ -36,7 +36,8 @@ run_behind lefts rights n (suc more) = call_run lefts rights n (next_answer left
 abbrev pub pairs_run : List FeedRow → List FeedRow → ℕ → Run WordFault
 pairs_run lefts rights count = run_behind lefts rights 0 count
 
--- the run of the word
+-- the run of the word: both files are fetched, the right one only where the left one is a feed; then come the pairs,
+-- and the line of the draws
 abbrev pub IsFeedRun : Finds → FeedWords → Run WordFault → Type 0
 IsFeedRun finds words run = IsTwoFeedsRun pairs_run finds words run
 

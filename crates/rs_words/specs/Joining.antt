@@ -1,7 +1,7 @@
 -- Two feeds of tables, and the join that draws from them.
 use Rattle.std.specs.Prelude.{◌≡◌, ◌≤◌, false, length, Option, Some, None, Result, Ok, Err}
 use Rattle.rs_table.specs.Relation.{most_rows}
-use Rattle.rs_table_feed.specs.TableFeeds.{TableFeedState, table_feed_state}
+use Rattle.rs_table_feed.specs.TableFeeds.{TableFeedState, new_feed, table_feed_state}
 use Rattle.rs_feed_join.specs.declared.fault.JoinFault.{JoinFault}
 use Rattle.rs_feed_join.specs.declared.fault.JoinFault.TheVariants as join
 use Rattle.rs_feed_join.specs.declared.feed_pair.FeedPair.{FeedPair}
@@ -22,6 +22,12 @@ pub record IsJoining (state : FeedJoinState) (left right : TableFeedState) : Typ
   pub unbroken : state.broken ≡ false
   pub left_feed : IsDrawnOfTable left state.left
   pub right_feed : IsDrawnOfTable right state.right
+
+-- the feed of a table, of which nothing is drawn
+pub record IsUndrawn (feed : TableFeedState) : Type 0 where
+  pub new : feed ≡ new_feed feed.rows
+  pub scores : HaveScores feed.rows
+  pub few : length feed.rows ≤ most_rows
 
 -- the faults that come of a join of tables: a table has no row more than a join takes, and its feed never fails
 abbrev pub IsOfTables : JoinFault → Type 0

@@ -4,6 +4,7 @@ pub mod Lines
 pub mod Joining
 pub mod TwoFeeds
 pub mod Feeding
+pub mod Drawing
 pub mod Certifying
 pub mod Checking
 pub mod GoodCerts

@@ -1,4 +1,4 @@
-ghost use Rattle.std.specs.Prelude.{◌≡◌, ◌⊎◌, ◌≤◌, Ok, Err, MatchResult, length};
+ghost use Rattle.std.specs.Prelude.{◌≡◌, ◌⊎◌, ◌≤◌, Ok, Err, MatchResult, OnOk, length};
 ghost use Rattle.rs_events.specs.Environment.{Environment};
 ghost use Rattle.rs_events.specs.Events.{finds_in};
 ghost use Rattle.rs_events.specs.Running.{Ran, Runs};
@@ -6,8 +6,9 @@ ghost use Rattle.rs_cert.specs.Records.{most_wanted};
 ghost use Rattle.rs_cert_join.specs.Certs.{cert_of};
 ghost use Rattle.rs_feed_join.specs.Joins.{new_feed_join, side_in};
 ghost use Rattle.rs_words.specs.Certifying.{IsCertRun, certified, few_rows, joined_bytes, joined_cert_run};
+ghost use Rattle.rs_words.specs.Drawing.{AreDrawn, draws_in_all};
 ghost use Rattle.rs_words.specs.Faults.{feed_faults, put_faults};
-ghost use Rattle.rs_words.specs.Joining.{IsJoining};
+ghost use Rattle.rs_words.specs.Joining.{IsJoining, IsUndrawn};
 
 use crate::fault::WordFault;
 use crate::feed_file::read_feed;
@@ -20,8 +21,24 @@ use rs_table_feed::TableFeed;
 use rs_value::Text;
 use std::alloc::Global;
 
-/// Does what `cert LEFT RIGHT K` says: it joins two files that are ranked feeds as `feed` does, and puts the certificate of the first
-/// `k` pairs and of the rows that were drawn for them. It puts nothing before the join is done.
+/// Does what `cert LEFT RIGHT K` says: it joins two files that are ranked feeds as `feed` does, and puts, in one put,
+/// the certificate of the first `k` pairs, or of all, and of the rows that were drawn for them, with an end where one
+/// draw was behind the last row. It puts nothing before the join is done. `k` is at most 1,000,000, since the
+/// certificate says it and is to be read back.
+///
+/// # Errors
+///
+/// - `Read`: with `Missing` or `TooLong` exactly where the run comes to the fetch of a name that isn't there, or of a
+///   file of more than 33,554,432 bytes; with `Failed` only where a fetch failed.
+/// - `Table`: exactly where the run comes to a file that is no table with the columns `key TEXT, score INT`.
+/// - `Range`: exactly where it comes to such a table with a number outside 0 to 4,294,967,295.
+/// - `Order`: exactly where the run comes to the draw of a row whose score is greater than that of the row before it.
+///   Nothing is out.
+/// - `CertTooLong`: exactly where the run comes to the end of the join, and more than 8,192 rows of a side were drawn;
+///   the left side is told first.
+/// - `Write`: only where the put failed.
+/// - `CertForm`: never.
+/// - `Memory`: at any call.
 pub fn cert_word<F: Files, O: Sink>(
     alloc: Global,
     left: &Text,
@@ -40,18 +57,31 @@ pub fn cert_word<F: Files, O: Sink>(
     put_cert(alloc, k, &mut left, &mut right, out)
 }
 
-/// Puts the certificate of the first `count` pairs of two feeds of which nothing is drawn.
-fn put_cert<O: Sink>(
+/// Puts, in one put, the certificate of the first `count` pairs of two feeds of tables, or of all, and of the rows that
+/// were drawn for them. It draws no row that doesn't stand in the certificate, and no more than the pairs take.
+///
+/// # Errors
+///
+/// - `Order`: exactly where the join comes to the draw of a row whose score is greater than that of the row before it.
+///   Nothing is out.
+/// - `CertTooLong`: exactly where the join comes to its end, and more than 8,192 rows of a side were drawn; the left
+///   side is told first.
+/// - `Write`: only where the put failed.
+/// - `Read`, `Table`, `Range`, `CertForm`: never.
+/// - `Memory`: at any call.
+pub fn put_cert<O: Sink>(
     alloc: Global,
     count: u32,
     left: &mut TableFeed,
     right: &mut TableFeed,
     out: &mut O,
 ) -> Result<(), WordFault>
-    requires joining { IsJoining new_feed_join left.old right.old }
+    requires left { IsUndrawn left.old }
+    requires right { IsUndrawn right.old }
     requires wanted { count ≤ most_wanted }
-    ensures { (beside : Environment) → Ran put_faults (joined_cert_run left.old.rows right.old.rows count) result
+    ensures puts { (beside : Environment) → Ran put_faults (joined_cert_run left.old.rows right.old.rows count) result
         (record beside { out = O.state out.old }) (record beside { out = O.state out.new }) }
+    ensures draws { OnOk result (AreDrawn (draws_in_all left.old.rows right.old.rows count) left.new right.new) }
 {
     let bytes = cert_bytes(alloc, count, left, right)?;
     put_text(&bytes, out)
@@ -66,8 +96,9 @@ fn cert_bytes(
 ) -> Result<Vec<u8>, WordFault>
     requires joining { IsJoining new_feed_join left.old right.old }
     requires wanted { count ≤ most_wanted }
-    ensures { MatchResult result (λ bytes. joined_bytes left.old.rows right.old.rows count ≡ Ok bytes.items)
+    ensures bytes { MatchResult result (λ bytes. joined_bytes left.old.rows right.old.rows count ≡ Ok bytes.items)
         (λ fault. (fault ≡ WordFault.Memory) ⊎ (joined_bytes left.old.rows right.old.rows count ≡ Err fault)) }
+    ensures draws { OnOk result (AreDrawn (draws_in_all left.old.rows right.old.rows count) left.new right.new) }
 {
     let mut join = FeedJoin::new(alloc);
     let pairs = first_pairs(alloc, &mut join, count, left, right)?;
@@ -86,8 +117,9 @@ fn first_pairs(
 ) -> Result<Vec<(u32, u32)>, WordFault>
     requires joining { IsJoining join.old left.old right.old }
     requires undrawn { join.old ≡ new_feed_join }
-    ensures { MatchResult result (λ pairs. certified left.old.rows right.old.rows count ≡ Ok (cert_of join.new count pairs.items))
+    ensures pairs { MatchResult result (λ pairs. certified left.old.rows right.old.rows count ≡ Ok (cert_of join.new count pairs.items))
         (λ fault. (fault ≡ WordFault.Memory) ⊎ (certified left.old.rows right.old.rows count ≡ Err fault)) }
+    ensures draws { OnOk result (AreDrawn (draws_in_all left.old.rows right.old.rows count) left.new right.new) }
 {
     let mut pairs = Vec::new(alloc);
     for index in 0..count {

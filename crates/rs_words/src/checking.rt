@@ -16,7 +16,18 @@ use rs_outside::{Files, Sink};
 use rs_value::{Memory, Text};
 use std::alloc::Global;
 
-/// Does what `check FILE` says: it reads a certificate, and puts whether it proves its answer, or which part of it fails first.
+/// Does what `check FILE` says: it reads a certificate, and puts whether it proves its answer, or which part of it
+/// fails first. Of bytes that are no certificate it puts nothing.
+///
+/// # Errors
+///
+/// - `Read`: with `Missing` or `TooLong` exactly where the run comes to the fetch of a name that isn't there, or of a
+///   file of more than 33,554,432 bytes; with `Failed` only where the fetch failed.
+/// - `CertForm`: exactly where the run comes to bytes that are no certificate, with the first record that no
+///   certificate has there.
+/// - `Write`: only where the put failed.
+/// - `Table`, `Range`, `Order`, `CertTooLong`: never.
+/// - `Memory`: at any call.
 pub fn check_word<F: Files, O: Sink>(
     alloc: Global,
     file: &Text,

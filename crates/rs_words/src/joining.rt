@@ -2,6 +2,7 @@ ghost use Rattle.std.specs.Prelude.{◌≡◌, ◌⊎◌, Some, Ok, IfErr, IfOk,
 ghost use Rattle.rs_feed_join.specs.Answers.{HasDrawn, asks_of_cuts, next_answer};
 ghost use Rattle.rs_feed_join.specs.Joins.{given_after};
 ghost use Rattle.rs_feed_join.specs.Sides.{IsCounted};
+ghost use Rattle.rs_words.specs.Drawing.{DrewUntil};
 ghost use Rattle.rs_words.specs.Joining as told;
 ghost use Rattle.rs_words.specs.Joining.{IsJoining, IsOfTables, fault_of};
 
@@ -22,6 +23,7 @@ pub(crate) fn next_pair(
     ensures given { IfOk result (λ pair. join.new.given ≡ given_after (Ok pair) join.old.given) }
     ensures joining { OnOk result (IsJoining join.new left.new right.new) }
     ensures counted { OnOk result (IsCounted join.new.left × IsCounted join.new.right) }
+    ensures drew { IfErr result (λ fault. DrewUntil left.old.rows right.old.rows join.old.given fault left.new right.new) }
     ensures left_rows { left.new.rows ≡ left.old.rows }
     ensures right_rows { right.new.rows ≡ right.old.rows }
 {

@@ -1,4 +1,4 @@
-//! Small certificates of which each byte is changed to each other value. The numbers are those of checks/certificates.py.
+//! Small certificates of which each byte is changed to each other value. The numbers are those of checks/cases/certificates.py.
 
 ghost use Rattle.std.specs.Prelude.{◌<◌, ◌^◌, IfOk, length};
 

@@ -1,4 +1,4 @@
-//! Joins of random feeds: see checks/feeds.py.
+//! Joins of random feeds: see checks/cases/feeds.py.
 
 use crate::random::Case;
 

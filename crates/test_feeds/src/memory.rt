@@ -1,4 +1,4 @@
-//! A join for which memory ends at any place: checks/memory.sh refuses each of its allocations.
+//! A join for which memory ends at any place: checks/gate/memory.sh refuses each of its allocations.
 
 ghost use Rattle.rs_feed.specs.MemFeed.{feed_state};
 ghost use Rattle.rs_feed_join.specs.Sides.{IsDrawnOf};

@@ -1,6 +1,5 @@
 -- A new scan over the indexes of an eligible block stands where no ask has left it.
-use Rattle.std.proofs.Common.{◌≡◌, ◌∙◌, ◌≤◌, ◌-◌, ◌++◌, List, ℕ, zero, suc, [], ◌∷◌, refl, sym, ap, subst}
-use Rattle.std.specs.Prelude.{slice_index}
+use Rattle.std.proofs.Common.{◌≡◌, ◌∙◌, ◌≤◌, ◌++◌, List, ℕ, [], ◌∷◌, refl, sym, ap, subst}
 use Rattle.rs_order.proofs.EachFacts.{each-weaker}
 use Rattle.rs_rank.specs.declared.answer.Answer.{Answer}
 use Rattle.rs_rank.specs.declared.weights.Weights.{Weights}
@@ -13,6 +12,7 @@ use Rattle.rs_ta.specs.BlockTests.{BlockTestState, holds_on}
 use Rattle.rs_ta.specs.Depths.{ScanInput}
 use Rattle.rs_ta.specs.Eligible.{block_input}
 use Rattle.rs_ta.specs.IndexLists.{IndexListsState, index_lists_state, new_index_lists}
+use Rattle.rs_ta.specs.Lists.{AreUnaccessed}
 use Rattle.rs_ta.specs.Scans.{Scan, new_scan}
 use Rattle.rs_ta.proofs.EligibleFacts.{held-indexes}
 use Rattle.rs_statement.specs.Lines.{rank_lines}
@@ -20,18 +20,6 @@ use Rattle.rs_run.specs.Parts.Scanning.{IsScanning, IsUnasked, scan_input, scann
 use Rattle.rs_run.specs.Threshold.{access_line, scan_asks, scan_lines}
 use Rattle.rs_run.proofs.ScanFacts.{lines-same}
 use Rattle.rs_run.proofs.threshold.scan_block.Goals as goal
-
--- no list had an access at first
-none-at : (n : ℕ) → slice_index (0 ∷ 0 ∷ 0 ∷ 0 ∷ 0 ∷ 0 ∷ 0 ∷ 0 ∷ []) n ≡ 0
-none-at zero = refl
-none-at (suc zero) = refl
-none-at (suc (suc zero)) = refl
-none-at (suc (suc (suc zero))) = refl
-none-at (suc (suc (suc (suc zero)))) = refl
-none-at (suc (suc (suc (suc (suc zero))))) = refl
-none-at (suc (suc (suc (suc (suc (suc zero)))))) = refl
-none-at (suc (suc (suc (suc (suc (suc (suc zero))))))) = refl
-none-at (suc (suc (suc (suc (suc (suc (suc (suc n)))))))) = refl
 
 pub new-test-requires : goal.new-test-requires
 new-test-requires g c = record {
@@ -56,10 +44,11 @@ put_scan-put-requires g c =
     let test : BlockTestState = record { catalogue = catalogue; block = block } in
     let lists = new_index_lists catalogue indexes in
     let state = index_lists_state lists in
+    let unaccessed = subst (λ (own : IndexListsState). AreUnaccessed (index_lists_state own)) c.new-lists.ensures.value c.new-lists.ensures.unaccessed in
     let start : IsScanning test (new_scan (weights_of block) 1 1) lists = record {
       entry_is = refl;
       block_is = refl;
-      stands = c.new_scan_stands.ensures (weights_of block) 1 1 state (holds_on catalogue block) (λ list is. none-at (list - 1)) (λ list is. none-at (list - 1));
+      stands = c.new_scan_stands.ensures (weights_of block) 1 1 state (holds_on catalogue block) (λ list is. (unaccessed list).0) (λ list is. (unaccessed list).1);
       have = c.eligible_blocks_can_be_scanned.ensures.weights catalogue block indexes c.requires.formed c.requires.eligible;
       same_rows = c.threshold_scans_give_the_answer.ensures.rows answer catalogue block indexes c.requires.formed c.requires.eligible (held-indexes answer catalogue indexes c.requires.held);
     } in
@@ -68,7 +57,7 @@ put_scan-put-requires g c =
       one_entry = c.eligible_blocks_can_be_scanned.ensures.entry catalogue block indexes c.requires.eligible;
       test = c.new-test.ensures;
       scanning = subst (λ (scan : Scan). IsScanning c.new-test.result scan c.new-lists.result) (sym scan)
-          (subst (λ (own : IndexListsState). IsScanning c.new-test.result (new_scan (weights_of block) 1 1) own) (sym c.new-lists.ensures)
+          (subst (λ (own : IndexListsState). IsScanning c.new-test.result (new_scan (weights_of block) 1 1) own) (sym c.new-lists.ensures.value)
           (subst (λ (own : BlockTestState). IsScanning own (new_scan (weights_of block) 1 1) lists) (sym c.new-test.ensures) start));
       unasked = subst IsUnasked (sym scan) (record { given = refl; open_is = refl });
     }
@@ -84,7 +73,7 @@ returns g c =
     let scan : c.new-scan.result ≡ new_scan (weights_of block) 1 1 = c.new-scan.ensures ∙ ap (λ (weights : Weights). new_scan weights 1 1) c.weights.ensures.value in
     let input : scan_input c.new-test.result c.new-scan.result c.new-lists.result ≡ block_input catalogue block indexes =
     ap (λ (scan : Scan). scan_input c.new-test.result scan c.new-lists.result) scan
-    ∙ ap (λ (own : IndexListsState). scan_input c.new-test.result (new_scan (weights_of block) 1 1) own) c.new-lists.ensures
+    ∙ ap (λ (own : IndexListsState). scan_input c.new-test.result (new_scan (weights_of block) 1 1) own) c.new-lists.ensures.value
     ∙ ap (λ (own : BlockTestState). scan_input own (new_scan (weights_of block) 1 1) (new_index_lists catalogue indexes)) c.new-test.ensures in
     let rows : scanned_rows c.new-test.result limit (block_input catalogue block indexes) ≡ answer_of answer catalogue (One block limit) (all_rows catalogue (One block limit)) =
     ap (λ (own : BlockTestState). scanned_rows own limit (block_input catalogue block indexes)) c.new-test.ensures

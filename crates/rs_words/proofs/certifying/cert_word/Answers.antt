@@ -1,7 +1,5 @@
-use Rattle.std.proofs.Common.{refl}
 use Rattle.rs_value.proofs.ResultFacts.{given-err}
 use Rattle.rs_words.specs.Certifying.{joined_cert_run}
-use Rattle.rs_words.proofs.FeedingFacts.{undrawn}
 use Rattle.rs_words.proofs.RunFacts.{Ran-joined, Ran-no_left, Ran-no_right}
 use Rattle.rs_words.proofs.certifying.cert_word.Goals as goal
 
@@ -16,12 +14,11 @@ returns-in_err-right g c = λ beside.
     (record beside { files = g.F.Files.state c.args.files.now; out = g.O.Sink.state c.args.out.now }) (g.F.Files.state c.read_feed.new.files) c.in_ok-left.left (g.F.Files.state c.read_feed-2.new.files)
     c.in_ok-left.ensures.fetches c.in_err-right.field-0.0 c.in_err-right.ensures.fetches)
 
-pub put_cert-requires-clause-joining : goal.put_cert-requires-clause-joining
-put_cert-requires-clause-joining g c = record {
-  unbroken = refl;
-  left_feed = undrawn c.in_ok-left.left c.in_ok-left.ensures.unused c.in_ok-left.ensures.scores c.in_ok-left.ensures.few;
-  right_feed = undrawn c.in_ok-right.right c.in_ok-right.ensures.unused c.in_ok-right.ensures.scores c.in_ok-right.ensures.few;
-}
+pub put_cert-requires-clause-left : goal.put_cert-requires-clause-left
+put_cert-requires-clause-left g c = record { new = c.in_ok-left.ensures.unused; scores = c.in_ok-left.ensures.scores; few = c.in_ok-left.ensures.few }
+
+pub put_cert-requires-clause-right : goal.put_cert-requires-clause-right
+put_cert-requires-clause-right g c = record { new = c.in_ok-right.ensures.unused; scores = c.in_ok-right.ensures.scores; few = c.in_ok-right.ensures.few }
 
 pub returns : goal.returns
 returns g c = λ beside.
@@ -29,4 +26,4 @@ returns g c = λ beside.
     Ran-joined joined_cert_run (record { left = c.args.left.now; right = c.args.right.now; count = c.args.k })
     (record beside { files = g.F.Files.state c.args.files.now; out = g.O.Sink.state c.args.out.now }) (g.F.Files.state c.read_feed.new.files) c.in_ok-left.left rights
     c.in_ok-left.ensures.fetches c.in_ok-right.right c.put_cert.result (record beside { files = rights; out = g.O.Sink.state c.put_cert.new.out }) c.in_ok-right.ensures.fetches
-    (c.put_cert.ensures (record beside { files = rights }))
+    (c.put_cert.ensures.puts (record beside { files = rights }))

@@ -1,6 +1,4 @@
-use Rattle.std.proofs.Common.{refl}
 use Rattle.rs_value.proofs.ResultFacts.{given-err}
-use Rattle.rs_words.proofs.FeedingFacts.{undrawn}
 use Rattle.rs_words.proofs.RunFacts.{Ran-joined, Ran-no_left, Ran-no_right}
 use Rattle.rs_words.specs.Feeding.{pairs_run}
 use Rattle.rs_words.proofs.feeding.feed_word.Goals as goal
@@ -16,12 +14,11 @@ returns-in_err-right g c = λ beside.
     (record beside { files = g.F.Files.state c.args.files.now; out = g.O.Sink.state c.args.out.now }) (g.F.Files.state c.read_feed.new.files) c.in_ok-left.left (g.F.Files.state c.read_feed-2.new.files)
     c.in_ok-left.ensures.fetches c.in_err-right.field-0.0 c.in_err-right.ensures.fetches)
 
-pub put_join-requires : goal.put_join-requires
-put_join-requires g c = record {
-  unbroken = refl;
-  left_feed = undrawn c.in_ok-left.left c.in_ok-left.ensures.unused c.in_ok-left.ensures.scores c.in_ok-left.ensures.few;
-  right_feed = undrawn c.in_ok-right.right c.in_ok-right.ensures.unused c.in_ok-right.ensures.scores c.in_ok-right.ensures.few;
-}
+pub put_join-requires-clause-left : goal.put_join-requires-clause-left
+put_join-requires-clause-left g c = record { new = c.in_ok-left.ensures.unused; scores = c.in_ok-left.ensures.scores; few = c.in_ok-left.ensures.few }
+
+pub put_join-requires-clause-right : goal.put_join-requires-clause-right
+put_join-requires-clause-right g c = record { new = c.in_ok-right.ensures.unused; scores = c.in_ok-right.ensures.scores; few = c.in_ok-right.ensures.few }
 
 pub returns : goal.returns
 returns g c = λ beside.
@@ -29,4 +26,4 @@ returns g c = λ beside.
     Ran-joined pairs_run (record { left = c.args.left.now; right = c.args.right.now; count = c.args.k })
     (record beside { files = g.F.Files.state c.args.files.now; out = g.O.Sink.state c.args.out.now }) (g.F.Files.state c.read_feed.new.files) c.in_ok-left.left rights
     c.in_ok-left.ensures.fetches c.in_ok-right.right c.put_join.result (record beside { files = rights; out = g.O.Sink.state c.put_join.new.out }) c.in_ok-right.ensures.fetches
-    (c.put_join.ensures (record beside { files = rights }))
+    (c.put_join.ensures.puts (record beside { files = rights }))

@@ -2,8 +2,10 @@ use Rattle.std.proofs.Common.{◌≡◌, ◌⊎◌, Some, Err, refl, sym, ap, su
 use Rattle.rs_feed_join.specs.Answers.{next_answer}
 use Rattle.rs_words.specs.declared.fault.WordFault.{WordFault}
 use Rattle.rs_words.specs.declared.fault.WordFault.TheVariants.{Memory}
+use Rattle.rs_words.specs.Drawing.{DrewUntil}
 use Rattle.rs_words.specs.Joining.{fault_of}
 use Rattle.rs_words.proofs.CallFacts.{all-drawn, drawn-after, fault-told, of-tables, rows-kept}
+use Rattle.rs_words.proofs.DrawingFacts.{drew-until}
 use Rattle.rs_words.proofs.joining.next_pair.Goals as goal
 
 pub returns-in-Ok-clause-pair : goal.returns-in-Ok-clause-pair
@@ -62,3 +64,18 @@ returns-in-Err-clause-left_rows c = rows-kept c.args.left.now.rows c.next.new.le
 
 pub returns-in-Err-clause-right_rows : goal.returns-in-Err-clause-right_rows
 returns-in-Err-clause-right_rows c = rows-kept c.args.right.now.rows c.next.new.right.rows c.in-Err.ensures.right_told
+
+pub returns-in-Err-clause-drew : goal.returns-in-Err-clause-drew
+returns-in-Err-clause-drew c =
+    let lefts = c.args.left.now.rows in
+    let rights = c.args.right.now.rows in
+    let n = c.args.join.now.given in
+    let ensures = c.in-Err.ensures in
+    let next = ensures.told lefts rights refl refl c.requires.left_feed.scores c.requires.right_feed.scores in
+    let of = of-tables lefts rights c.requires.left_feed.few c.requires.right_feed.few c.next.new.self n c.in-Err.why
+    next ensures.refused (ensures.left_refused) (ensures.right_refused)
+    (λ e. let broke = ensures.broken.0 (ap Err e) in let whole = c.requires.unbroken in absurd cc)
+    (λ e. (ensures.left_counts.sure refl).1 (ap Err e))
+    (λ e. (ensures.right_counts.sure refl).1 (ap Err e)) in
+    subst (λ fault. DrewUntil lefts rights n fault c.next.new.left c.next.new.right) (sym c.join_fault.ensures)
+    (drew-until lefts rights n c.next.new.self.left c.next.new.self.right c.next.new.left c.next.new.right c.in-Err.why ensures.left.draws ensures.right.draws of next)

@@ -1,5 +1,0 @@
-#!/usr/bin/env bash
-# Runs the built program under what a machine or hostile input may do to it; checks/hostile.py says what that is. It prints a
-# line `ok` for each case, or what differs, and ends with 1 where one fails. The program is crates/ranksql/out/ranksql, or the
-# one that the variable RANKSQL names.
-exec env PYTHONDONTWRITEBYTECODE=1 python3 "$(dirname "$0")/hostile.py" "$@"

@@ -1,0 +1,42 @@
+//! What the calls of a plan tell of its rows: laws that hold of every catalogue and query, and of every two scorers. The functions
+//! compute nothing; each is called for its contract.
+
+ghost use Rattle.std.specs.Prelude.{◌≡◌, ℕ, suc, take};
+ghost use Rattle.rs_expr.specs.Scoring.{Answering};
+ghost use Rattle.rs_catalog.specs.Catalog.{CatalogDef};
+ghost use Rattle.rs_query.specs.declared.query.Query.{Query};
+ghost use Rattle.rs_plan.specs.Calls.{calls_of_plan, questions};
+ghost use Rattle.rs_plan.specs.Trees.{Rank, PlanTree};
+ghost use Rattle.rs_ripple.specs.Stands.{BeginsWith};
+ghost use Rattle.rs_exec.specs.Asking.{world_of};
+ghost use Rattle.rs_exec.specs.Certifying.{AnswerAlike, AnswersFit, AsksNo, IsGreaterBy, IsRankedScan};
+ghost use Rattle.rs_exec.specs.Cursors.{answers_of, next_answer};
+
+/// The calls of a plan of one table certify its rows: where two scorers answer the questions of its first asks alike, its first rows
+/// are the same for both, with their scores. So are the calls of these asks, and what each of them comes to. No answer that wasn't
+/// asked for can change them.
+pub fn calls_certify_rows()
+    ensures rows { (catalogue : CatalogDef) (query : Query) (tree : PlanTree) (answer other : Answering) (n : ℕ)
+        → IsRankedScan tree → AnswersFit catalogue query tree answer → AnswersFit catalogue query tree other
+        → AnswerAlike catalogue answer other (questions (world_of catalogue answer query) 1 tree n)
+        → take n (answers_of (world_of catalogue answer query) tree) ≡ take n (answers_of (world_of catalogue other query) tree) }
+    ensures calls { (catalogue : CatalogDef) (query : Query) (tree : PlanTree) (answer other : Answering) (n : ℕ)
+        → IsRankedScan tree → AnswersFit catalogue query tree answer → AnswersFit catalogue query tree other
+        → AnswerAlike catalogue answer other (questions (world_of catalogue answer query) 1 tree n)
+        → calls_of_plan (world_of catalogue answer query) tree n ≡ calls_of_plan (world_of catalogue other query) tree n }
+    ensures asks { (catalogue : CatalogDef) (query : Query) (tree : PlanTree) (answer other : Answering) (n : ℕ)
+        → IsRankedScan tree → AnswersFit catalogue query tree answer → AnswersFit catalogue query tree other
+        → AnswerAlike catalogue answer other (questions (world_of catalogue answer query) 1 tree (suc n))
+        → next_answer (world_of catalogue answer query) tree n ≡ next_answer (world_of catalogue other query) tree n }
+{}
+
+/// Greater answers take no more calls. In a plan of one table whose topmost operator alone evaluates terms of a predicate, two scorers
+/// answer alike but for this predicate, by which no term is worth less with the second one. Then the calls of the first asks with the
+/// second scorer are the first of those with the first scorer. It isn't so where rank operators of other predicates stand above it: what a
+/// greater answer brings forward is then asked for by them.
+pub fn greater_answers_call_no_more()
+    ensures { (catalogue : CatalogDef) (query : Query) (predicate term : ℕ) (child : PlanTree) (lesser greater : Answering) (n : ℕ)
+        → IsRankedScan child → AsksNo query predicate child → IsGreaterBy catalogue predicate lesser greater
+        → AnswersFit catalogue query (Rank term child) lesser → AnswersFit catalogue query (Rank term child) greater
+        → BeginsWith (calls_of_plan (world_of catalogue lesser query) (Rank term child) n) (calls_of_plan (world_of catalogue greater query) (Rank term child) n) }
+{}

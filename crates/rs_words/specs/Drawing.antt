@@ -1,0 +1,91 @@
+-- How often two feeds were drawn for the pairs that were put, also where a put failed.
+use Rattle.std.specs.Prelude.{ℕ, zero, suc, ◌≡◌, ◌<◌, ◌⊎◌, min, List, [], ◌∷◌, ◌++◌, length, map, slice_get, Option, Some, None, Result, Ok, Err}
+use Rattle.rs_feed.specs.declared.feed_row.FeedRow.{FeedRow}
+use Rattle.rs_table_feed.specs.TableFeeds.{TableFeedState}
+use Rattle.rs_feed_join.specs.declared.feed_pair.FeedPair.{FeedPair}
+use Rattle.rs_feed_join.specs.Answers.{asks_of_cuts, draws_for, next_answer}
+use Rattle.rs_feed_join.specs.Cuts.{cut}
+use Rattle.rs_feed_join.specs.Pairs.{joined_pairs}
+use Rattle.rs_feed_join.specs.Ranked.{asks_of_rows}
+use Rattle.rs_order.specs.Schedule.{Left, Right, SideAsk, asked}
+use Rattle.rs_ripple.specs.Stands.{BeginsWith}
+use Rattle.rs_events.specs.Environment.{Environment}
+use Rattle.rs_events.specs.Events.{Put}
+use Rattle.rs_events.specs.Run.{lines_run}
+use Rattle.rs_events.specs.Running.{HasDone, Ran}
+use Rattle.rs_words.specs.declared.fault.WordFault.{WordFault}
+use Rattle.rs_words.specs.declared.fault.WordFault.TheVariants.{Order}
+use Rattle.rs_words.specs.Faults.{put_faults}
+use Rattle.rs_words.specs.Feeding.{draws_run}
+use Rattle.rs_words.specs.Lines.{pair_line}
+
+-- so often both feeds were drawn
+pub record AreDrawn (made : List SideAsk) (left right : TableFeedState) : Type 0 where
+  pub left_draws : left.draws ≡ asked Left made
+  pub right_draws : right.draws ≡ asked Right made
+
+-- a front of these draws was made
+pub record DrewFront (all : List SideAsk) (left right : TableFeedState) : Type 0 where
+  pub made : List SideAsk
+  pub begins : BeginsWith all made
+  pub drawn : AreDrawn made left right
+
+-- the pairs of both fronts
+abbrev pub pairs_of : List FeedRow → List FeedRow → List FeedPair
+pairs_of lefts rights = joined_pairs (cut lefts) (cut rights)
+
+-- the draws that this many pairs take, or all pairs and the end behind them, where there are fewer
+abbrev pub draws_in_all : List FeedRow → List FeedRow → ℕ → List SideAsk
+draws_in_all lefts rights count = asks_of_rows (cut lefts) (cut rights) (min count (suc (length (pairs_of lefts rights))))
+
+-- the line of a pair, where there is one
+abbrev pub line_at : ℕ → Option FeedPair → List (List ℕ)
+line_at rank None = []
+line_at rank (Some pair) = pair_line rank pair ∷ []
+
+-- the lines of the first n pairs
+abbrev pub first_lines : List FeedPair → ℕ → List (List ℕ)
+first_lines pairs zero = []
+first_lines pairs (suc n) = first_lines pairs n ++ line_at (suc n) (slice_get pairs n)
+
+-- what a call of the join drew that ended with this fault behind n pairs: all up to the row out of order; or, where there was no memory, a front of what
+-- the next pair takes
+abbrev pub DrewUntil : List FeedRow → List FeedRow → ℕ → WordFault → TableFeedState → TableFeedState → Type 0
+DrewUntil lefts rights n (Order side row before got) left right = AreDrawn (draws_for lefts rights n) left right
+DrewUntil lefts rights n fault left right = DrewFront (draws_for lefts rights n) left right
+
+-- behind n pairs a call of the join ended with this fault, and nothing more was put
+pub record StopsAtCall (lefts rights : List FeedRow) (n : ℕ) (fault : WordFault) (left right : TableFeedState) (old new : Environment) : Type 0 where
+  pub drew : DrewUntil lefts rights n fault left right
+  pub put : HasDone [] old new
+
+-- behind n pairs the put of the next one ended with this fault; the draws are those that this pair takes
+pub record StopsAtPair (lefts rights : List FeedRow) (n : ℕ) (fault : WordFault) (left right : TableFeedState) (old new : Environment) : Type 0 where
+  pub pair : FeedPair
+  pub next : next_answer lefts rights n ≡ Ok (Some pair)
+  pub drawn : AreDrawn (asks_of_cuts lefts rights n) left right
+  pub put : Ran put_faults (lines_run (pair_line (suc n) pair ∷ [])) (Err fault) old new
+
+abbrev pub StopsAt : List FeedRow → List FeedRow → ℕ → WordFault → TableFeedState → TableFeedState → Environment → Environment → Type 0
+StopsAt lefts rights n fault left right old new = StopsAtCall lefts rights n fault left right old new ⊎ StopsAtPair lefts rights n fault left right old new
+
+-- n pairs are out, of as many as are wanted, and then a fault ended it
+pub record StopsBehind (lefts rights : List FeedRow) (count : ℕ) (fault : WordFault) (left right : TableFeedState) (old new : Environment) : Type 0 where
+  pub n : ℕ
+  pub within : n < count
+  pub middle : Environment
+  pub lines : HasDone (map Put (first_lines (pairs_of lefts rights) n)) old middle
+  pub stops : StopsAt lefts rights n fault left right middle new
+
+-- all pairs are out, and the put of the line of the draws ended with this fault
+pub record StopsAtDraws (lefts rights : List FeedRow) (count : ℕ) (fault : WordFault) (left right : TableFeedState) (old new : Environment) : Type 0 where
+  pub drawn : AreDrawn (draws_in_all lefts rights count) left right
+  pub middle : Environment
+  pub lines : HasDone (map Put (first_lines (pairs_of lefts rights) (min count (length (pairs_of lefts rights))))) old middle
+  pub put : Ran put_faults (draws_run (draws_in_all lefts rights count)) (Err fault) middle new
+
+-- what both feeds were drawn where this many pairs were wanted: no more than what was put takes, and the pair whose put failed
+abbrev pub DrawsAsPut : List FeedRow → List FeedRow → ℕ → Result (Unit {0}) WordFault → TableFeedState → TableFeedState → Environment → Environment → Type 0
+DrawsAsPut lefts rights count (Ok done) left right old new = AreDrawn (draws_in_all lefts rights count) left right
+DrawsAsPut lefts rights count (Err fault) left right old new =
+    StopsBehind lefts rights count fault left right old new ⊎ StopsAtDraws lefts rights count fault left right old new
