@@ -10,7 +10,7 @@ use Rattle.rs_run.specs.declared.status.Status.{Status}
 use Rattle.rs_run.specs.declared.status.Status.TheVariants as status
 use Rattle.rs_run.specs.Words.{Form}
 use Rattle.rs_scores.specs.Known.{Known, score_of}
-use Rattle.rs_scores.specs.TableScorer.{IsTableScorer, TableScorerState, new_scorer, table_state}
+use Rattle.rs_scores.specs.TableScorer.{TableScorerState, missing_last, new_scorer, table_state}
 use Rattle.rs_ask.specs.declared.pass.Pass.{Pass}
 
 -- a question whose score isn't known
@@ -39,7 +39,6 @@ pub record IsPass (form : Form) (known : Known) (pass : Pass) (old new : Outside
   pub ran : FormRunsTo (Some form) status
       (environment old (table_state (new_scorer known)) rows (sink_state no_pieces))
       (environment new (table_state scorer) puts (sink_state pass.err))
-  pub lawful : IsTableScorer scorer
   pub calls : pass.calls ≡ scorer.count
-  pub missing : pass.missing ≡ missing_in known status scorer.missing
+  pub missing : pass.missing ≡ missing_in known status (missing_last known scorer.calls)
   pub most : pass.most ≡ scorer.most

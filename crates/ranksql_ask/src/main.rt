@@ -10,6 +10,7 @@
 mod command;
 mod ending;
 mod fault;
+mod pass_scorer;
 mod script;
 mod words;
 

@@ -11,12 +11,12 @@ pub trait Answers {
     /// The bytes that are left, where the object tells them; how many reads failed; and whether none will.
     ghost state: { Self → Outside (List ℕ) };
 
-    /// The next byte. There is none at the end, which is no fault.
+    /// The next byte.
     ///
     /// # Errors
     ///
-    /// - `None`: where the object tells its bytes and the read doesn't fail, exactly where none is left.
-    /// - `ReadFault`: only where the count of faults rose; of a steady object never.
+    /// - `ReadFault`: only where the count of faults rose; of a steady object never. No byte is taken.
+    /// - `None`: exactly at the end, which is no fault.
     fn next_byte(&mut self) -> Result<Option<u8>, ReadFault>
         ensures reads { ReadsByte result (state self.old).told (state self.new).told }
         ensures counts { Counts (IsErr result) (state self.old) (state self.new) };

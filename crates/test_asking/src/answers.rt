@@ -12,7 +12,7 @@ type Expected = Result<i64, Told>;
 /// Bytes, the next answer, and what is left behind it.
 type Row = (&'static [u8], Expected, &'static [u8]);
 
-const ANSWERS: [Row; 27] = [
+const ANSWERS: [Row; 26] = [
     (b"7\n", Ok(7), b""),
     (b"7\n8\n", Ok(7), b"8\n"),
     (b"-7\r\n8\n", Ok(-7), b"8\n"),
