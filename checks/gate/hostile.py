@@ -140,7 +140,8 @@ def outputs():
         tell("the same where the system's signal ends the program", difference((status, file.read(), error), (-signal.SIGXFSZ, CURSOR_ROWS[:9], b"")))
     # (a folder of its own, whose program is newer than all else, so that the script builds nothing)
     os.makedirs("top/crates/ranksql/out")
-    for name in ("crates.txt", "ranksql"):
+    os.makedirs("top/tools")
+    for name in ("crates.txt", "ranksql", "tools/build_and_run"):
         shutil.copy(f"{ROOT}/{name}", f"top/{name}")
     shutil.copy(PROGRAM, "top/crates/ranksql/out/ranksql")
     with open("limited", "wb") as file:
