@@ -8,6 +8,7 @@ use Rattle.rs_run.specs.Status.{exit_status_of}
 use Rattle.rs_outside.specs.Files.{FilesTold}
 use Rattle.rs_run.specs.Words.{Form, RunScript}
 use Rattle.rs_scores.specs.Known.{Known}
+use Rattle.rs_scores.specs.KnownFiles.{Found}
 use Rattle.rs_ask.specs.Asking.{AskingState, ChannelState, Ends, StopsAfter}
 use Rattle.rs_ask.specs.declared.asked.Asked.{Asked}
 use Rattle.rs_ask.specs.declared.channel.Channel.{Channel}
@@ -19,7 +20,7 @@ use Rattle.rs_prepare.specs.declared.ready.Prepared.{Prepared}
 use Rattle.ranksql_ask.specs.AskFaults as fault
 use Rattle.ranksql_ask.specs.AskFaults.{Refusal, ask_line, ask_status, unready}
 use Rattle.ranksql_ask.specs.Lines.{end_lines, end_status, memory_line, stop_lines, stop_status}
-use Rattle.ranksql_ask.specs.Passes.{IsPass}
+use Rattle.ranksql_ask.specs.Passes.{IsPass, StaysFound}
 use Rattle.ranksql_ask.specs.Words.{Request}
 
 -- what a sink tells, and its faults
@@ -46,14 +47,17 @@ Obeys ran answer old known new knows before after err told =
 abbrev pub Refuses : Refusal → ℕ → Lines → Lines → Lines → Lines → Type 0
 Refuses refusal answer out rows err told = (rows ≡ out) × Tells (ask_line refusal ∷ []) (exit_status_of (ask_status refusal)) answer err told
 
--- what is run again and again: words of this form, over these files
+-- what is run again and again: words of this form, over these files, of which this was found
 pub record Runner : Type 0 where
   pub form : Form
   pub files : Outside FilesTold
+  pub found : List Found
 
--- one run of it
-abbrev pub RunsOnce : Runner → Known → Pass → Runner → Lines → Lines → Type 0
-RunsOnce old known pass new rows puts = IsPass old.form known pass old.files new.files rows puts × (new.form ≡ old.form)
+-- one run of it: what was found before it stays found
+pub record RunsOnce (old : Runner) (known : Known) (pass : Pass) (new : Runner) (rows puts : Lines) : Type 0 where
+  pub ran : IsPass old.form known pass old.files new.files rows puts
+  pub form : new.form ≡ old.form
+  pub found : StaysFound old.found new.found
 
 -- the name of the script that words of this form run
 abbrev pub script_of : Form → List ℕ
@@ -95,7 +99,7 @@ Readies outside state ran names ends answer runs ended old new =
 abbrev pub DoesBy : {H Q A K : Type 0} → Openings H Q A K → (Channel Q A K → ChannelState) → Request → Outside FilesTold → ℕ → Work H → Work H → Option (List ℕ) → Type 0
 DoesBy outside state request seen answer old new (Some name) = RefusesFirst (fault.NoPredicate name) answer old new
 DoesBy outside state request seen answer old new None =
-    (ended : Runner) × Readies outside state RunsOnce request.names request.ends answer (record { form = request.form; files = seen }) ended old new
+    (found : List Found) × (ended : Runner) × Readies outside state RunsOnce request.names request.ends answer (record { form = request.form; files = seen; found = found }) ended old new
 
 -- it was looked for the predicates in the script: where it makes none of one of the names that is refused, and nothing is run; else all is made ready, and runs are made. A script that has no statements, or can't be
 -- fetched, is run, which tells why

@@ -86,7 +86,7 @@ fn answer<H: Opens, F: Files, G: Files + Drop, O: Sink, E: Sink>(
             let mut script = Script {
                 asking,
                 readers,
-                files,
+                files: Some(files),
             };
             make_ready(alloc, names, ends, &mut script, opens, kept, out, err)
         }

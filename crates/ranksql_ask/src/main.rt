@@ -7,9 +7,11 @@
 //! system does at an opening, a read and a write is only tested.
 #![tactic(auto)]
 
+mod began;
 mod command;
 mod ending;
 mod fault;
+mod pass_files;
 mod pass_scorer;
 mod script;
 mod words;

@@ -1,34 +1,22 @@
 ghost use Rattle.std.specs.Prelude.{◌≡◌};
 ghost use Rattle.rs_scores.specs.TableScorer.{missing_last, new_scorer, table_state};
 
+use crate::began::Began;
 use rs_expr::{Predicate, Scorer, ScorerFault};
 use rs_scores::{KnownScores, Question, TableScorer};
 use rs_value::Value;
 use std::alloc::Global;
-use std::marker::{Brand, Model, PhantomData};
-
-/// What is known in a pass. Proofs alone see it.
-pub(crate) trait Knows {
-    ghost use Rattle.rs_scores.specs.Known.{Known};
-
-    ghost known: { Known };
-}
-
-impl Knows for Brand {
-    ghost use Rattle.std.specs.Prelude.{[]};
-
-    ghost known = { record { names = []; scores = [] } };
-}
+use std::marker::{Model, PhantomData};
 
 /// The scorer of a pass: one over a table of known scores, which is the same table in all its calls. The contract of a run doesn't
 /// say so of a scorer.
 #[derive(Drop)]
-pub(crate) struct PassScorer<'a, B: Knows> {
+pub(crate) struct PassScorer<'a, B: Began> {
     scorer: TableScorer<'a>,
     of: PhantomData<B>,
 }
 
-impl<'a, B: Knows> Model for PassScorer<'a, B> {
+impl<'a, B: Began> Model for PassScorer<'a, B> {
     ghost use Rattle.std.specs.Prelude.{◌≡◌};
     ghost use Rattle.rs_scores.specs.TableScorer.{TableScorerState};
 
@@ -39,7 +27,7 @@ impl<'a, B: Knows> Model for PassScorer<'a, B> {
     ghost invariant = { λ s. s.scorer.known ≡ B.known };
 }
 
-impl<'a, B: Knows> PassScorer<'a, B> {
+impl<'a, B: Began> PassScorer<'a, B> {
     /// A scorer over this table that wasn't called yet. It takes no memory.
     pub(crate) fn new(alloc: Global, known: &'a KnownScores) -> PassScorer<'a, B>
         requires { B.known ≡ known.now }
@@ -75,7 +63,7 @@ impl<'a, B: Knows> PassScorer<'a, B> {
     }
 }
 
-impl<'a, B: Knows> Scorer for PassScorer<'a, B> {
+impl<'a, B: Began> Scorer for PassScorer<'a, B> {
     ghost state = { table_state };
 
     fn score(&mut self, predicate: &Predicate, args: &[Value]) -> Result<i128, ScorerFault> {

@@ -1,10 +1,12 @@
-ghost use Rattle.std.specs.Prelude.{◌≡◌, IfSome, None};
+ghost use Rattle.std.specs.Prelude.{◌≡◌, IfSome, IsSome, None};
 ghost use Rattle.rs_scores.specs.Known.{score_of};
 ghost use Rattle.rs_scores.specs.KnownFiles.{known_state};
 ghost use Rattle.ranksql_ask.specs.Parts.Asking.{form_of_asking};
-ghost use Rattle.ranksql_ask.specs.Passes.{IsPass, is_memory, missing_in};
+ghost use Rattle.ranksql_ask.specs.Passes.{IsPass, StaysFound, is_memory, missing_in};
 
-use crate::pass_scorer::{Knows, PassScorer};
+use crate::began::Began;
+use crate::pass_files::PassFiles;
+use crate::pass_scorer::PassScorer;
 use crate::words::Asking;
 use rs_ask::{Pass, Rerun};
 use rs_outside::{Files, MemSink, Sink};
@@ -18,7 +20,9 @@ use std::marker::Brand;
 pub struct Script<'a, F> {
     pub asking: Asking<'a>,
     pub readers: Readers<KnownTables>,
-    pub files: KnownFiles<F>,
+    // They are taken out for the time of a run.
+    pub files: Option<KnownFiles<F>>,
+    ghost there: { IsSome files },
 }
 
 /// The question that a run with this status missed, where its score isn't known.
@@ -42,26 +46,30 @@ fn is_memory(status: Status) -> bool
     matches!(status, Status::Memory)
 }
 
-/// Runs over the scores that are known, where proofs know which these are.
-fn run_over<F: Files, O: Sink, B: Knows>(
+/// Runs over the scores that are known, where proofs know which these are, and what was found of the files. Gives the files back.
+fn run_over<F: Files, O: Sink, B: Began>(
     alloc: Global,
-    script: &mut Script<'_, F>,
+    asking: &Asking<'_>,
+    readers: &mut Readers<KnownTables>,
+    files: KnownFiles<F>,
     known: &KnownScores,
     out: &mut O,
-) -> Pass
-    requires { B.known ≡ known.now }
-    ensures ran { IsPass (form_of_asking script.old.asking) known.now result (known_state (F.state script.old.files.files)) (known_state (F.state script.new.files.files)) (O.state out.old) (O.state out.new)
-        × (script.new.asking ≡ script.old.asking) }
-    ensures missing { IfSome result.missing (λ question. score_of question known.now ≡ None) }
+) -> (Pass, KnownFiles<F>)
+    requires known { B.known ≡ known.now }
+    requires found { B.found ≡ files.found }
+    ensures ran { IsPass (form_of_asking asking.now) known.now result.0 (known_state (F.state files.files)) (known_state (F.state result.1.files)) (O.state out.old) (O.state out.new) }
+    ensures found { StaysFound files.found result.1.found }
+    ensures missing { IfSome result.0.missing (λ question. score_of question known.now ≡ None) }
 {
+    let mut files = PassFiles::<F, B>::new(files);
     let mut scorer = PassScorer::<B>::new(alloc, known);
     let mut err = MemSink::new(alloc);
     let status = run_file(
         alloc,
-        script.asking.evaluating,
-        script.asking.script,
-        &mut script.readers,
-        &mut script.files,
+        asking.evaluating,
+        asking.script,
+        readers,
+        &mut files,
         &mut scorer,
         out,
         &mut err,
@@ -69,25 +77,39 @@ fn run_over<F: Files, O: Sink, B: Knows>(
     let calls = scorer.count();
     let most = scorer.most();
     let missing = missing_in(known, status, scorer.into_missing());
-    Pass {
+    let pass = Pass {
         err,
         status: status.number(),
         lacked_memory: is_memory(status),
         calls,
         missing,
         most,
-    }
+    };
+    (pass, files.into_files())
 }
 
-impl<'a, F: Files> Rerun for Script<'a, F> {
-    ghost ran = { λ old known pass new rows puts. IsPass (form_of_asking old.asking) known pass (known_state (F.state old.files.files)) (known_state (F.state new.files.files)) rows puts
-        × (new.asking ≡ old.asking) };
+impl<'a, F: Files + Drop> Rerun for Script<'a, F> {
+    ghost use Rattle.ranksql_ask.specs.Endings.{RunsOnce};
+    ghost use Rattle.ranksql_ask.specs.Parts.Runners.{runner_of};
+
+    ghost ran = { λ old known pass new rows puts. RunsOnce (runner_of F.state old) known pass (runner_of F.state new) rows puts };
 
     fn rerun<O: Sink>(&mut self, alloc: Global, known: &KnownScores, out: &mut O) -> Pass
-        ensures ran { IsPass (form_of_asking self.old.asking) known.now result (known_state (F.state self.old.files.files)) (known_state (F.state self.new.files.files)) (O.state out.old) (O.state out.new)
-            × (self.new.asking ≡ self.old.asking) }
+        ensures ran { RunsOnce (runner_of F.state self.old) known.now result (runner_of F.state self.new) (O.state out.old) (O.state out.new) }
         ensures missing { IfSome result.missing (λ question. score_of question known.now ≡ None) }
     {
-        run_over::<F, O, Brand>(alloc, self, known, out)
+        let Some(files) = self.files.take() else {
+            unreachable!();
+        };
+        let (pass, files) = run_over::<F, O, Brand>(
+            alloc,
+            &self.asking,
+            &mut self.readers,
+            files,
+            known,
+            out,
+        );
+        self.files = Some(files);
+        pass
     }
 }

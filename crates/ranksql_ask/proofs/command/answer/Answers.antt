@@ -9,7 +9,6 @@ use Rattle.rs_scores.specs.KnownFiles.{known_state}
 use Rattle.rs_run.specs.Status.{exit_status_of}
 use Rattle.ranksql_ask.specs.AskFaults.{NoPredicate, ask_line, ask_status}
 use Rattle.ranksql_ask.specs.Endings.{RunsOnce, Tells}
-use Rattle.ranksql_ask.specs.Parts.Asking.{form_of_asking}
 use Rattle.ranksql_ask.specs.Parts.Runners.{runner_of}
 use Rattle.ranksql_ask.proofs.CommandFacts.{Readies-map}
 use Rattle.ranksql_ask.proofs.command.answer.Goals as goal
@@ -28,8 +27,9 @@ returns-in-Ok-None g c = inl (record {
   looks = looked _ _ _ _ _ _ _ _ c.deref.ensures.value (ap (λ known. known_state (g.G.Files.state known.files)) c.new-files.ensures)
       (ap (option_map (λ name. name.now)) c.in-Ok-None.field-0-is) c.in-Ok-None.ensures;
   does = (
+    c.unmade_predicate.new.files.found,
     runner_of g.G.Files.state c.make_ready.new.runs,
-    Readies-map (runner_of g.G.Files.state) _ RunsOnce (λ old known pass new rows puts did. (did.0, ap form_of_asking did.1)) _ _ _ _ _ _ _ _ _ c.make_ready.ensures,
+    Readies-map (runner_of g.G.Files.state) _ RunsOnce (λ old known pass new rows puts did. did) _ _ _ _ _ _ _ _ _ c.make_ready.ensures,
   );
 })
 
