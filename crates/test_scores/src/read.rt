@@ -161,7 +161,7 @@ fn marked_line(alloc: Global) -> Result<Vec<u8>, Fail> {
 #[test]
 fn reads_back_a_marked_name(rt: HostRuntime) -> Result<(), Fail> {
     let line = marked_line(rt.alloc())?;
-    assert!(&rt; line.as_slice() == b"\xEF\xBB\xBFnear,5,77\n");
+    assert!(&rt; line.as_slice() == b"\xEF\xBB\xBFnear,5,77\n".as_slice());
     assert!(&rt; line.len() <= MOST_BYTES);
     let Ok(known) = read_scores(rt.alloc(), marked_names(rt.alloc())?, &line) else {
         return Err(Fail::new("refused"));
