@@ -3,7 +3,8 @@ use Rattle.std.proofs.Common.{◌≡◌, ◌==◌, ◌+◌, ◌-◌, ◌≤◌, 
 use Rattle.std.specs.Fmt.{signed_decimal}
 use Rattle.std.specs.List.{All, concat}
 use Rattle.std.specs.Prelude.{if◌then◌else◌, nat_abs, slice_index_or}
-use Rattle.std.specs.Str.{IsAscii, is_utf8}
+use Rattle.std.specs.Cmp.Lexicographic.{bytes_decides}
+use Rattle.std.specs.Str.{IsAscii, bytes_eq, is_utf8}
 use Rattle.std.proofs.lemmas.Bool.{cases_Bool, le-ltb, true≢false}
 use Rattle.std.proofs.lemmas.Fmt.{IsAscii-signed}
 use Rattle.std.proofs.lemmas.Grind.{common_steps}
@@ -19,16 +20,16 @@ use Rattle.rs_table.specs.Records.{records_of}
 use Rattle.rs_scores.specs.Kept.{AreNew, CanBeKept}
 use Rattle.rs_scores.specs.Known.{is_asked}
 use Rattle.rs_scores.specs.Lines.{known_line, known_lines}
-use Rattle.rs_scores.specs.Names.{is_marked}
+use Rattle.rs_scores.specs.Names.{has_marked, is_marked}
 use Rattle.rs_scores.specs.Places.{is_record, place_after, place_behind}
-use Rattle.rs_scores.specs.Reading.{is_ended, known_in, known_of, scores_from, scores_in, texts_from, with_entry, with_record}
+use Rattle.rs_scores.specs.Reading.{is_ended, known_in, known_of, scores_behind, scores_from, scores_in, texts_from, with_entry, with_record}
 use Rattle.rs_scores.specs.declared.fault.KnownFault.{KnownFault}
 use Rattle.rs_scores.specs.declared.fault.KnownFault.TheVariants.{NotEnded}
 use Rattle.rs_scores.specs.declared.known_score.KnownScore.{KnownScore}
 use Rattle.rs_scores.specs.declared.place.Place.{Place}
 use Rattle.rs_scores.specs.declared.place.Place.TheVariants.{Closed, Field, Plain, Quoted, Record}
 use Rattle.rs_scores.proofs.JoinFacts.{joins, records-none}
-use Rattle.rs_scores.proofs.LineFacts.{and-false, behind-line, length-line, unmarked-line}
+use Rattle.rs_scores.proofs.LineFacts.{and-false, behind-line, length-line, or-left, or-right, unmarked-line}
 use Rattle.rs_scores.proofs.NumeralFacts.{int_value-signed}
 use Rattle.rs_scores.proofs.PlaceFacts.{place_behind-append, strip_bom-unmarked}
 
@@ -160,13 +161,21 @@ lines-ended names (entry ∷ rest) kept =
     place_behind-append Record (known_line entry) (concat (known_lines rest))
     ∙ ap (λ place. place_behind place (concat (known_lines rest))) line ∙ lines-ended names rest (rest-hold (CanBeKept names) entry rest kept)
 
--- and they begin with no byte order mark
-lines-unmarked : (names : List (List ℕ)) (entries : List KnownScore) → All (CanBeKept names) entries → is_marked (concat (known_lines entries)) ≡ false
-lines-unmarked names [] kept = refl
-lines-unmarked names (entry ∷ rest) kept =
+-- a name that is asked for is marked only where one of the names is
+unmarked-name : (names : List (List ℕ)) (name : List ℕ) → has_marked names ≡ false → is_asked names name ≡ true → is_marked name ≡ false
+unmarked-name [] name none asked = absurd (cc)
+unmarked-name (first ∷ rest) name none asked = elim (cases_Bool (bytes_eq first name)) [
+  | inl same ↦ ap is_marked (sym ((bytes_decides first name).0 same)) ∙ or-left _ _ none
+  | inr other ↦ unmarked-name rest name (or-right _ _ none) (rw other at asked)
+]
+
+-- and where no name is marked they begin with no byte order mark
+lines-unmarked : (names : List (List ℕ)) (entries : List KnownScore) → has_marked names ≡ false → All (CanBeKept names) entries → is_marked (concat (known_lines entries)) ≡ false
+lines-unmarked names [] none kept = refl
+lines-unmarked names (entry ∷ rest) none kept =
     let here = first-holds (CanBeKept names) entry rest kept in
     let pair = pair-of entry.question here.some in
-    let name : is_marked pair.first ≡ false = ap (λ (question : List (List ℕ)). is_marked (slice_index_or question 0 [])) (sym pair.are) ∙ here.unmarked in
+    let name : is_marked pair.first ≡ false = ap (λ (question : List (List ℕ)). is_marked (slice_index_or question 0 [])) (sym pair.are) ∙ unmarked-name names (slice_index_or entry.question 0 []) none here.asked in
     subst (λ (question : List (List ℕ)). is_marked (known_line (record { question = question; score = entry.score }) ++ concat (known_lines rest)) ≡ false) (sym pair.are)
     (unmarked-line pair.first pair.second (pair.rest ++ signed_decimal entry.score ∷ []) (concat (known_lines rest)) name)
 
@@ -223,40 +232,60 @@ strip_bom-joined (a ∷ b ∷ c ∷ rest) more ended none = elim (cases_Bool (is
   | inr not ↦ rw not refl
 ]
 
--- known scores are read back behind what was read already
-pub read-behind : (names : List (List ℕ)) (bytes : List ℕ) (before entries : List KnownScore) → scores_in names bytes ≡ Ok before → All (CanBeKept names) entries → AreNew before entries
-    → scores_in names (bytes ++ concat (known_lines entries)) ≡ Ok (before ++ entries)
-read-behind names bytes before entries is kept new =
+-- a file of which scores were read is ended
+ended-read : (names : List (List ℕ)) (bytes : List ℕ) (before : List KnownScore) → scores_behind names bytes ≡ Ok before → is_ended bytes ≡ true
+ended-read names bytes before is = (elim (is_ended bytes) as (λ (b : Bool). is_ended bytes ≡ b → (if b then scores_from names 1 [] (records_of bytes) else Err NotEnded) ≡ Ok before → b ≡ true) [
+  | true ↦ λ e read. refl
+  | false ↦ λ e read. absurd (cc)
+]) refl is
+
+-- known scores are read back behind what was read already, where no mark is taken away but the one that was
+read-joined : (names : List (List ℕ)) (bytes all : List ℕ) (before entries : List KnownScore) → strip_bom all ≡ strip_bom bytes ++ concat (known_lines entries)
+    → scores_behind names bytes ≡ Ok before → All (CanBeKept names) entries → AreNew before entries → scores_behind names all ≡ Ok (before ++ entries)
+read-joined names bytes all before entries stripped is kept new =
     let lines = concat (known_lines entries) in
-    let ended : is_ended bytes ≡ true = (elim (is_ended bytes) as (λ (b : Bool). is_ended bytes ≡ b → (if b then scores_from names 1 [] (records_of bytes) else Err NotEnded) ≡ Ok before → b ≡ true) [
-      | true ↦ λ e read. refl
-      | false ↦ λ e read. absurd (cc)
-    ]) refl is in
+    let ended : is_ended bytes ≡ true = ended-read names bytes before is in
     let front = strip_bom bytes in
-    let stripped : strip_bom (bytes ++ lines) ≡ front ++ lines = strip_bom-joined bytes lines ended (lines-unmarked names entries kept) in
     let place : place_behind Record front ≡ Record = is-record (place_behind Record front) ended in
     let joined = joins front place in
     let read : scores_from names 1 [] joined.rows ≡ Ok before =
     ap (scores_from names 1 []) (sym (joined.alone (length front + 1) (omega (arith, joined.few)))) ∙ (rw ended at is) in
-    let still : is_ended (bytes ++ lines) ≡ true =
-    ap (λ all. is_record (place_behind Record all)) stripped
+    let still : is_ended all ≡ true =
+    ap (λ text. is_record (place_behind Record text)) stripped
     ∙ ap is_record (place_behind-append Record front lines ∙ ap (λ p. place_behind p lines) place ∙ lines-ended names entries kept) in
     let left = length (front ++ lines) + 1 - length joined.rows in
     let sizes : length (front ++ lines) ≡ length front + length lines = length-append front lines in
-    let count : length (strip_bom (bytes ++ lines)) + 1 ≡ length joined.rows + left = omega (arith, ap length stripped, sizes, joined.few) in
+    let count : length (strip_bom all) + 1 ≡ length joined.rows + left = omega (arith, ap length stripped, sizes, joined.few) in
     let enough : length entries ≤ left = omega (arith, sizes, joined.few, length-lines entries) in
-    let rows : records_of (bytes ++ lines) ≡ joined.rows ++ map record_fields entries =
-    ap (λ n. records_from default_config n st.StartRecord (strip_bom (bytes ++ lines))) count
+    let rows : records_of all ≡ joined.rows ++ map record_fields entries =
+    ap (λ n. records_from default_config n st.StartRecord (strip_bom all)) count
     ∙ ap (records_from default_config (length joined.rows + left) st.StartRecord) stripped
     ∙ joined.joined left lines
     ∙ ap (λ more. joined.rows ++ more) (records-lines entries left enough) in
     let behind = scores_from-behind names 1 [] joined.rows before (map record_fields entries) read in
     rw still (ap (scores_from names 1 []) rows ∙ behind.same ∙ scores_from-kept names behind.next before entries kept new)
 
+-- they are read back behind a file, whether one of the names is marked or none
+pub read-behind : (names : List (List ℕ)) (bytes : List ℕ) (before entries : List KnownScore) → scores_in names bytes ≡ Ok before → All (CanBeKept names) entries → AreNew before entries
+    → scores_in names (bytes ++ concat (known_lines entries)) ≡ Ok (before ++ entries)
+unfolding strip_bom
+read-behind names bytes before entries is kept new =
+    let lines = concat (known_lines entries) in
+    elim (cases_Bool (has_marked names)) [
+      | inl some ↦ rw some (read-joined names (239 ∷ 187 ∷ 191 ∷ bytes) (239 ∷ 187 ∷ 191 ∷ (bytes ++ lines)) before entries refl (rw some at is) kept new)
+      | inr none ↦
+          let read : scores_behind names bytes ≡ Ok before = rw none at is in
+          let stripped = strip_bom-joined bytes lines (ended-read names bytes before read) (lines-unmarked names entries none kept) in
+          rw none (read-joined names bytes (bytes ++ lines) before entries stripped read kept new)
+    ]
+
 -- an empty file has no scores
 scores_in-nothing : (names : List (List ℕ)) → scores_in names [] ≡ Ok []
 unfolding strip_bom
-scores_in-nothing names = ap (scores_from names 1 []) (records-none 1)
+scores_in-nothing names = elim (cases_Bool (has_marked names)) [
+  | inl some ↦ rw some (ap (scores_from names 1 []) (records-none 1))
+  | inr none ↦ rw none (ap (scores_from names 1 []) (records-none 1))
+]
 
 pub read-alone : (names : List (List ℕ)) (entries : List KnownScore) → All (CanBeKept names) entries → AreNew [] entries → scores_in names (concat (known_lines entries)) ≡ Ok entries
 read-alone names entries kept new = read-behind names [] [] entries (scores_in-nothing names) kept new

@@ -20,6 +20,11 @@ strip_bom-unmarked (a ∷ []) e = refl
 strip_bom-unmarked (a ∷ b ∷ []) e = refl
 strip_bom-unmarked (a ∷ b ∷ c ∷ rest) e = rw e refl
 
+-- a mark that is put in front is taken away
+pub strip_bom-behind : (bytes marked : List ℕ) → marked ≡ 239 ∷ 187 ∷ 191 ∷ bytes → strip_bom marked ≡ bytes
+unfolding strip_bom
+strip_bom-behind bytes marked e = ap strip_bom e
+
 -- the place behind more bytes
 pub place_behind-append : (place : Place) (bytes more : List ℕ) → place_behind place (bytes ++ more) ≡ place_behind (place_behind place bytes) more
 place_behind-append place [] more = refl

@@ -7,21 +7,27 @@ use Rattle.std.specs.Prelude.{find, nat_abs, option_map}
 use Rattle.std.proofs.lemmas.Int.{fits_signed_from_abs, to_z-of_z}
 use Rattle.std.proofs.lemmas.Bool.{true≢false}
 use Rattle.csv.specs.Machine.{next_record}
-use Rattle.csv.specs.Reading.{Ready, default_config, is_flexible, records_from, records_next, strip_bom}
+use Rattle.csv.specs.Reading.{Ready, default_config, is_flexible, names_headers, reader_config, reader_headers, reader_trim, records_from, records_next, strip_bom}
 use Rattle.csv.specs.declared.parser.State.{State}
 use Rattle.csv.specs.declared.parser.State.TheVariants as st
+use Rattle.csv.specs.declared.reader.Trim.TheVariants as trim
 use Rattle.rs_value.specs.Answer.{Gives}
 use Rattle.rs_value.specs.Number.{greatest_int}
 use Rattle.rs_value.specs.Results.{◌>>=◌}
-use Rattle.rs_table.specs.Records.{ByteReader, IsReading, records_left, records_of}
+use Rattle.rs_table.specs.Records.{ByteReader, IsReading, bytes_left, records_left, records_of}
 use Rattle.rs_table.proofs.RecordsFacts.{Found-from_read, ReadBytes, records_left-none}
-use Rattle.rs_scores.proofs.PlaceFacts.{length-strip_bom}
 use Rattle.rs_scores.specs.Known.{Known, score_of, score_with}
 use Rattle.rs_scores.specs.Questions.{is_same_question}
 use Rattle.rs_scores.specs.Reading.{Knows, Reads, known_of, score_in, scores_from, with_entry, with_record}
 use Rattle.rs_scores.specs.declared.fault.KnownFault.{KnownFault}
 use Rattle.rs_scores.specs.declared.fault.KnownFault.TheVariants.{Memory, Twice}
 use Rattle.rs_scores.specs.declared.known_score.KnownScore.{KnownScore}
+
+-- a new reader that takes no header row, over the bytes behind a byte order mark
+pub IsReading-behind : (reader : ByteReader) (bytes : List ℕ) → reader_config reader ≡ default_config → reader_trim reader ≡ trim.None
+    → names_headers reader ≡ false → reader_headers reader ≡ None → is_flexible reader ≡ true → bytes_left reader ≡ Some (strip_bom bytes) → length (strip_bom bytes) ≤ 33554432 → IsReading reader
+IsReading-behind reader bytes config untrimmed named headers flexible known few =
+    record { config = config; untrimmed = untrimmed; ready = inr (inr (named, headers)); flexible = flexible; bytes = strip_bom bytes; known = known; few = few }
 
 -- what a read says of the records that are left
 pub next-found : (found : Bool) (old new : ByteReader) (fields : List (List ℕ)) → IsReading old → Ready new → is_flexible new ≡ is_flexible old → ReadBytes old new found fields
@@ -159,9 +165,9 @@ length-records_from (suc n) s bytes =
       | Some p ↦ omega (arith, length-records_from n p.1 p.2)
     ])
 
--- so a file has at most one record more than bytes
-pub length-records_of : (bytes : List ℕ) → length (records_of bytes) ≤ length bytes + 1
-length-records_of bytes = omega (arith, length-records_from (length (strip_bom bytes) + 1) st.StartRecord (strip_bom bytes), length-strip_bom bytes)
+-- so a file has at most one record more than bytes behind its mark
+pub length-records_of : (bytes : List ℕ) → length (records_of bytes) ≤ length (strip_bom bytes) + 1
+length-records_of bytes = length-records_from (length (strip_bom bytes) + 1) st.StartRecord (strip_bom bytes)
 
 -- a score in range is the same as 64 bits
 pub score-fits : (score : ℤ) → nat_abs score ≤ greatest_int → to_z w64 (of_z w64 score) ≡ score

@@ -9,7 +9,7 @@ use Rattle.rs_scores.specs.KnownFiles.{found_under, found_with}
 use Rattle.csv.specs.Reading.{strip_bom}
 use Rattle.rs_scores.specs.Names.{names_in}
 use Rattle.rs_scores.specs.Questions.{question_of}
-use Rattle.rs_scores.specs.Reading.{is_ended, known_of, scores_from}
+use Rattle.rs_scores.specs.Reading.{is_ended, known_of, marked, scores_from}
 use Rattle.rs_scores.specs.TableScorer.{missing_last}
 use Rattle.rs_scores.specs.declared.fault.KnownFault.TheVariants.{FieldCount, NotAsked, NotScore, Twice}
 
@@ -120,6 +120,16 @@ blank_name = refl
 
 same_name : names_in (codes "near,far,near") ≡ None
 same_name = refl
+
+marked_name : names_in (239 ∷ 187 ∷ 191 ∷ codes "near") ≡ Some ((239 ∷ 187 ∷ 191 ∷ codes "near") ∷ [])
+marked_name = refl
+
+-- a byte order mark at the start is passed over, unless a name begins with one
+mark_kept : marked ((239 ∷ 187 ∷ 191 ∷ codes "near") ∷ codes "far" ∷ []) (239 ∷ 187 ∷ 191 ∷ codes "near,5,7\n") ≡ 239 ∷ 187 ∷ 191 ∷ 239 ∷ 187 ∷ 191 ∷ codes "near,5,7\n"
+mark_kept = refl
+
+mark_passed : marked (codes "near" ∷ codes "far" ∷ []) (239 ∷ 187 ∷ 191 ∷ codes "near,5,7\n") ≡ 239 ∷ 187 ∷ 191 ∷ codes "near,5,7\n"
+mark_passed = refl
 
 -- what was found under a name stays
 found_first : found_under (codes "a") (found_with (codes "a") None (found_with (codes "a") (Some (codes "x")) [])) ≡ Some (record { name = codes "a"; there = Some (codes "x") })

@@ -13,9 +13,14 @@ abbrev pub is_marked : List ℕ → Bool
 is_marked (first ∷ second ∷ third ∷ rest) = is_bom first second third
 is_marked _ = false
 
--- a name is not empty, has no blank at either end, and no byte order mark in front
+-- a byte order mark stands in front of one of these names
+abbrev pub has_marked : List (List ℕ) → Bool
+has_marked [] = false
+has_marked (name ∷ rest) = is_marked name || has_marked rest
+
+-- a name is not empty, and has no blank at either end
 abbrev pub is_name : List ℕ → Bool
-is_name name = not (length name == 0) && not (is_blank (slice_index_or name 0 0)) && not (is_blank (slice_index_or name (length name - 1) 0)) && not (is_marked name)
+is_name name = not (length name == 0) && not (is_blank (slice_index_or name 0 0)) && not (is_blank (slice_index_or name (length name - 1) 0))
 
 -- these are names, no two of them the same
 abbrev pub are_names : List (List ℕ) → Bool

@@ -7,6 +7,7 @@ use Rattle.rs_value.specs.Number.{int_value}
 use Rattle.rs_value.specs.Results.{◌>>=◌}
 use Rattle.rs_table.specs.Records.{records_of}
 use Rattle.rs_scores.specs.Known.{Known, is_asked, score_of}
+use Rattle.rs_scores.specs.Names.{has_marked}
 use Rattle.rs_scores.specs.Places.{is_record, place_behind}
 use Rattle.rs_scores.specs.Questions.{is_same_question}
 use Rattle.rs_scores.specs.declared.place.Place.TheVariants.{Record}
@@ -59,9 +60,17 @@ scores_from names number before (fields ∷ rest) = with_record names number bef
 abbrev pub is_ended : List ℕ → Bool
 is_ended bytes = is_record (place_behind Record (strip_bom bytes))
 
+-- the scores of the records behind one byte order mark, or why there are none
+abbrev pub scores_behind : List (List ℕ) → List ℕ → Result (List KnownScore) KnownFault
+scores_behind names bytes = if is_ended bytes then scores_from names 1 [] (records_of bytes) else Err NotEnded
+
+-- where a name begins with a byte order mark, one that stands at the start of a file belongs to its first record: another one is put in front of it
+abbrev pub marked : List (List ℕ) → List ℕ → List ℕ
+marked names bytes = if has_marked names then 0xEF ∷ 0xBB ∷ 0xBF ∷ bytes else bytes
+
 -- the scores of a file, or why it has none
 abbrev pub scores_in : List (List ℕ) → List ℕ → Result (List KnownScore) KnownFault
-scores_in names bytes = if is_ended bytes then scores_from names 1 [] (records_of bytes) else Err NotEnded
+scores_in names bytes = scores_behind names (marked names bytes)
 
 -- a table has exactly these scores
 pub record Knows (names : List (List ℕ)) (scores : List KnownScore) (known : Known) : Type 0 where

@@ -1,16 +1,16 @@
 ghost use Rattle.std.specs.Prelude.{◌≡◌, IfOk, option_map};
-ghost use Rattle.rs_scores.specs.Names.{are_names, is_blank, is_marked, is_name, names_in, parts_of};
+ghost use Rattle.rs_scores.specs.Names.{are_names, has_marked, is_blank, is_marked, is_name, names_in, parts_of};
 
 use rs_value::{Memory, Text};
 use std::alloc::Global;
 
-/// The names in a word, parted at commas, or `None` where one of its parts is no name of a predicate: where it is empty, begins
-/// or ends with a blank, begins with a byte order mark, or stands there twice.
+/// The names in a word, parted at commas, or `None` where one of its parts is empty, begins or ends with a blank, or stands there
+/// twice.
 ///
 /// # Errors
 ///
 /// - `Memory`: at any call.
-/// - `None`: exactly where a part is no name, or two parts are the same.
+/// - `None`: exactly where a part is empty or has a blank at an end, or two parts are the same.
 pub fn names_in(alloc: Global, word: &Text) -> Result<Option<Vec<Text>>, Memory>
     ensures { IfOk result (λ names. option_map (λ texts. texts.items) names ≡ names_in word.now) }
 {
@@ -54,7 +54,7 @@ fn is_name(name: &[u8]) -> bool
     ensures { result ≡ is_name name.now }
 {
     match (name.first(), name.last()) {
-        (Some(first), Some(last)) => { !is_blank(*first) && !is_blank(*last) && !is_marked(name) }
+        (Some(first), Some(last)) => !is_blank(*first) && !is_blank(*last),
         _ => false,
     }
 }
@@ -64,6 +64,18 @@ fn is_blank(byte: u8) -> bool
     ensures { result ≡ is_blank byte }
 {
     byte == b' ' || byte == b'\t'
+}
+
+/// Whether a byte order mark stands in front of one of these names.
+pub(crate) fn has_marked(names: &[Text]) -> bool
+    ensures { result ≡ has_marked names.now }
+{
+    for place in 0..names.len() {
+        if is_marked(names[place].bytes()) {
+            return true;
+        }
+    }
+    false
 }
 
 /// Whether a byte order mark stands in front.

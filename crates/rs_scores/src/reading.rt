@@ -6,12 +6,12 @@ ghost use Rattle.csv.specs.Records.{fields_of};
 ghost use Rattle.rs_value.specs.Answer.{Gives};
 ghost use Rattle.rs_value.specs.Number.{greatest_int};
 ghost use Rattle.rs_table.specs.Records.{IsReading, records_left, records_of};
-ghost use Rattle.rs_scores.specs.Reading.{Knows, Reads, ReadsTable, is_ended, known_in, known_of, scores_from, scores_in, texts_from, with_entry, with_record};
+ghost use Rattle.rs_scores.specs.Reading.{Knows, Reads, ReadsTable, is_ended, known_in, known_of, scores_behind, scores_from, scores_in, texts_from, with_entry, with_record};
 
 use crate::fault::KnownFault;
 use crate::known::KnownScores;
 use crate::known_score::KnownScore;
-use crate::names::is_marked;
+use crate::names::{has_marked, is_marked};
 use crate::place::Place;
 use crate::question::Question;
 use csv::{ByteRecord, Reader, ReaderBuilder};
@@ -28,6 +28,8 @@ const MOST_FIELDS: usize = 10;
 
 /// The known scores of a file, of predicates that are asked for and have these names. Each record of the file is a predicate's
 /// name, its arguments as they are printed, and the score. A record that stands there twice is taken once. An empty file has none.
+/// A byte order mark at the file's start is passed over, unless one of the names begins with a mark: then it belongs to the first
+/// record, since that is how a score of such a name is written.
 ///
 /// # Errors
 ///
@@ -55,6 +57,30 @@ fn read_into(alloc: Global, bytes: &[u8], known: &mut KnownScores) -> Result<(),
     requires none { known.old.scores ≡ [] }
     ensures { Reads known.old.names (scores_in known.old.names bytes.now) result known.new }
 {
+    if has_marked(known.names()) {
+        // The reader takes one mark away, so the one that may stand there is kept.
+        read_behind(alloc, &behind_mark(alloc, bytes)?, known)
+    } else {
+        read_behind(alloc, bytes, known)
+    }
+}
+
+/// These bytes, with a byte order mark in front.
+fn behind_mark(alloc: Global, bytes: &[u8]) -> Result<Vec<u8>, Memory>
+    ensures { IfOk result (λ all. all.items ≡ 0xEF ∷ 0xBB ∷ 0xBF ∷ bytes.now) }
+{
+    let mut all = Vec::new(alloc);
+    all.extend_from_slice(&[0xEF, 0xBB, 0xBF])?;
+    all.extend_from_slice(bytes)?;
+    Ok(all)
+}
+
+/// Reads the scores of the records behind one byte order mark into a table that has none.
+fn read_behind(alloc: Global, bytes: &[u8], known: &mut KnownScores) -> Result<(), KnownFault>
+    requires few { length (strip_bom bytes.now) ≤ 33554432 }
+    requires none { known.old.scores ≡ [] }
+    ensures { Reads known.old.names (scores_behind known.old.names bytes.now) result known.new }
+{
     if !is_ended(bytes) {
         return Err(KnownFault::NotEnded);
     }
@@ -81,7 +107,7 @@ fn unmarked(bytes: &[u8]) -> &[u8]
 
 /// Reads the scores of the records of a file into a table that has none.
 fn read_records(alloc: Global, bytes: &[u8], known: &mut KnownScores) -> Result<(), KnownFault>
-    requires few { length bytes.now ≤ 33554432 }
+    requires few { length (strip_bom bytes.now) ≤ 33554432 }
     requires none { known.old.scores ≡ [] }
     ensures { Reads known.old.names (scores_from known.old.names 1 [] (records_of bytes.now)) result known.new }
 {
@@ -97,7 +123,7 @@ fn read_records(alloc: Global, bytes: &[u8], known: &mut KnownScores) -> Result<
 
 /// What reads the records of these bytes, behind one byte order mark.
 fn reader_of<'a>(alloc: Global, bytes: &'a [u8]) -> Reader<&'a [u8]>
-    requires { length bytes.now ≤ 33554432 }
+    requires { length (strip_bom bytes.now) ≤ 33554432 }
     ensures reading { IsReading result }
     ensures records { records_left result ≡ records_of bytes.now }
 {

@@ -9,7 +9,7 @@ use std::test::Fail;
 /// A word, and the names in it.
 type Row = (&'static [u8], Option<&'static [&'static str]>);
 
-const WORDS: [Row; 13] = [
+const WORDS: [Row; 14] = [
     (b"near", Some(&["near"])),
     (
         b"near,far away,\xC3\xA9",
@@ -25,7 +25,8 @@ const WORDS: [Row; 13] = [
     (b"near ,far", None),
     (b"near,\tfar", None),
     (b"near,far,near", None),
-    (b"\xEF\xBB\xBFnear", None),
+    (b"\xEF\xBB\xBFnear,near", Some(&["\u{feff}near", "near"])),
+    (b"\xEF\xBB\xBFnear,\xEF\xBB\xBFnear", None),
 ];
 
 fn are_names(names: &[Text], wanted: &[&str]) -> bool {

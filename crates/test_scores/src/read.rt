@@ -2,8 +2,8 @@
 
 ghost use Rattle.std.specs.Prelude.{◌≤◌, length};
 
-use rs_scores::{KnownFault, KnownScores, MOST_BYTES, read_scores};
-use rs_value::Text;
+use rs_scores::{KnownFault, KnownScore, KnownScores, MOST_BYTES, Question, read_scores};
+use rs_value::{Text, Value};
 use std::alloc::Global;
 use std::process::Abort;
 use std::test::Fail;
@@ -108,6 +108,67 @@ fn reads_files_of_scores(rt: HostRuntime) -> Result<(), Fail> {
     for row in &FILES {
         assert_file(&rt, rt.alloc(), row)?;
     }
+    Ok(())
+}
+
+/// Files of a predicate whose name is `near` behind a byte order mark, and of `near`: a mark at the start belongs to the first
+/// record.
+const MARKED: [Row; 6] = [
+    (b"", Ok(0)),
+    (b"\xEF\xBB\xBFnear,5,77\n", Ok(1)),
+    (b"near,5,76\n\xEF\xBB\xBFnear,5,77\n", Ok(2)),
+    (b"\xEF\xBB\xBFnear,5,77\nnear,5,76\n", Ok(2)),
+    (
+        b"\xEF\xBB\xBF\xEF\xBB\xBFnear,5,77\n",
+        Err(KnownFault::NotAsked { number: 1 }),
+    ),
+    (b"\xEF\xBB\xBF", Err(KnownFault::NotEnded)),
+];
+
+/// A predicate whose name is `near` behind a byte order mark, and `near`.
+fn marked_names(alloc: Global) -> Result<Vec<Text>, Fail> {
+    let mut names = Vec::new(alloc);
+    names.push(Text::from_bytes(alloc, b"near")?)?;
+    names.push(Text::from_bytes(alloc, b"\xEF\xBB\xBFnear")?)?;
+    Ok(names)
+}
+
+fn assert_marked(rt: &impl Abort, alloc: Global, row: &Row) -> Result<(), Fail> {
+    assert!(rt; row.0.len() <= MOST_BYTES);
+    let count = count_of(alloc, marked_names(alloc)?, row.0);
+    assert_eq!(rt; count, row.1);
+    Ok(())
+}
+
+#[test]
+fn reads_files_of_marked_names(rt: HostRuntime) -> Result<(), Fail> {
+    for row in &MARKED {
+        assert_marked(&rt, rt.alloc(), row)?;
+    }
+    Ok(())
+}
+
+/// The line of a score of the marked name.
+fn marked_line(alloc: Global) -> Result<Vec<u8>, Fail> {
+    let near = Text::from_bytes(alloc, b"\xEF\xBB\xBFnear")?;
+    let known = KnownScore {
+        question: Question::of(alloc, &near, &[Value::Int(5)])?,
+        score: 77,
+    };
+    Ok(known.line(alloc)?)
+}
+
+#[test]
+fn reads_back_a_marked_name(rt: HostRuntime) -> Result<(), Fail> {
+    let line = marked_line(rt.alloc())?;
+    assert!(&rt; line.as_slice() == b"\xEF\xBB\xBFnear,5,77\n".as_slice());
+    assert!(&rt; line.len() <= MOST_BYTES);
+    let Ok(known) = read_scores(rt.alloc(), marked_names(rt.alloc())?, &line) else {
+        return Err(Fail::new("refused"));
+    };
+    let near = Text::from_bytes(rt.alloc(), b"\xEF\xBB\xBFnear")?;
+    let question = Question::of(rt.alloc(), &near, &[Value::Int(5)])?;
+    assert!(&rt; known.score(&question) == Some(77));
     Ok(())
 }
 
