@@ -1,6 +1,6 @@
 //! What stands ready before the first run of an asking: the scores that are known, and the three files that it works with.
 //!
-//! Its promise: each file is the one that its word names, what is known is what the file of known scores holds, and each
+//! Its promise: each file is opened by its own word, what is known is what the file of known scores holds, and each
 //! refusal is what an opening or the reading answered. What the system does at an opening is only tested.
 #![tactic(auto)]
 
