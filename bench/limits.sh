@@ -6,6 +6,8 @@
 # Crafted tables stand beside ordinary ones of the same size: keys of which a hash with a known seed makes the same number, and long
 # texts that differ in their last bytes alone. Where a crafted table takes more than four times as long as the ordinary one, the
 # script ends with 1.
+# The twins are what grows more than it has to: each beside itself at half the size, in the same run, so that a ratio is printed. 2 is
+# a cost that grows as the size, 1 one that doesn't grow. Some have another program beside them too.
 # The forms can be named: bench/limits.sh FORM.., and with none all are measured. The program is the one that ./ranksql builds, or
 # the one that the variable RANKSQL names.
 # shellcheck source=bench/functions.sh
@@ -14,13 +16,16 @@
 needs python3 'it makes the tables and takes the measures'
 find_program
 python3 - "$program" "$work" "$@" <<'PYTHON'
+import csv
 import json
 import math
 import os
 import random
 import resource
+import sqlite3
 import subprocess
 import sys
+import time
 
 program, folder, wanted = sys.argv[1], sys.argv[2], sys.argv[3:]
 os.chdir(folder)
@@ -331,7 +336,128 @@ def crafted():
     beside("texts of 206 bytes", "TEXT", [(a, b[200:] + b[:200]) for a, b in long], long, [rows // 16, rows])
 
 
-FORMS = [entries, terms, conjuncts, outputs, cursors, statements, explains, depth, tables, crafted]
+# ---- what grows more than it has to, beside half the size
+
+TWIN = "%-50s %9s %11s %11s %6s %8s %8s %6s"
+PERSONS = "CREATE PREDICATE rated (v INT) MAX 999999 AS v;\nCREATE PREDICATE near (a INT, b INT) MAX 1000000 AS 1000000 - ABS(a - b);\n"
+shown_twins = False
+
+
+def twin(form, size, figure):
+    """Prints seconds and memory of a size and of its half, and how the one compares with the other. `figure` gives the seconds and
+    the MB of a size."""
+    global shown_twins
+    if not shown_twins:
+        print(TWIN % ("twin", "size", "seconds", "of half", "ratio", "MB", "of half", "ratio"), flush=True)
+        shown_twins = True
+    (seconds, held), (half, half_held) = figure(size), figure(size // 2)
+    ratio = lambda whole, part: "%.2f" % (whole / part) if min(whole, part) > 0 else "-"
+    small = max(held, half_held) * 1024 < LEAST_MEMORY * 1.02
+    memory = ("-", "-", "-") if small else ("%.1f" % held, "%.1f" % half_held, ratio(held, half_held))
+    print(TWIN % (form, size, "%.6f" % seconds, "%.6f" % half, ratio(seconds, half), *memory), flush=True)
+
+
+def used(word, script, turns=1):
+    """The seconds and the MB of a script, the best of some runs."""
+    write("s.sql", script)
+    runs = [run([word, "s.sql"] + ["1"] * (word == "run")) for _ in range(turns)]
+    if any(status != 0 for status, _, _ in runs):
+        with open("err") as file:
+            sys.exit("bench: %s ended with %d: %s" % (word, runs[-1][0], file.read()))
+    return min(seconds for _, seconds, _ in runs), min(memory for _, _, memory in runs) / 1024
+
+
+def added(word, front, statements, turns=5):
+    """The seconds that one of some statements adds to a script, and the MB of all."""
+    seconds, memory = used(word, front + "".join(statements), turns)
+    return (seconds - used(word, front, turns)[0]) / len(statements), memory
+
+
+def persons(rows, groups=None):
+    """A table of a group and a value, of which about ten rows have each group."""
+    numbers("t.csv", 2, rows, lambda row, column: draw.randrange(10**6) if column else draw.randrange(groups or max(1, rows // 10)))
+    return "CREATE TABLE t (c0 INT, c1 INT) FROM 't.csv';\n" + PERSONS
+
+
+def inserted(count, size=1):
+    """So many INSERTs of so many rows."""
+    row = lambda: "(%d, %d)" % (draw.randrange(10**4), draw.randrange(10**6))
+    return ["INSERT INTO t VALUES %s;\n" % ", ".join(row() for _ in range(size)) for _ in range(count)]
+
+
+def inserts():
+    indexes = lambda count: "".join("CREATE RANK INDEX i%d ON t (near(c%d, %d));\n" % (number, number % 2, number) for number in range(count))
+    twin("INSERT of a row, no index", 100000, lambda size: added("run", persons(size), inserted(900)))
+    twin("INSERT of a row, two indexes", 100000, lambda size: added("run", persons(size) + indexes(2), inserted(400), 3))
+    twin("INSERT of a row, 64 indexes", 130000, lambda size: added("run", persons(size) + indexes(64), inserted(40), 1))
+
+
+def views():
+    declare = "DECLARE k CURSOR FOR SELECT c0, c1 FROM t ORDER BY rated(c1) LIMIT %d;\n"
+    twin("view of LIMIT 10, an INSERT", 120000, lambda size: added("view", persons(size) + declare % 10, inserted(900)))
+    twin("view of LIMIT 1,000,000, an INSERT", 120000, lambda size: added("view", persons(size) + declare % 10**6, inserted(40), 3))
+    joined = "DECLARE k CURSOR FOR SELECT x.c0 FROM t x, t y WHERE x.c0 = y.c0 AND x.c1 < y.c1 ORDER BY near(x.c1, y.c1) LIMIT 10;\n"
+    for rows in (1, 16, 17):
+        twin("view of a self-join, an INSERT of %d" % rows, 100000, lambda size, rows=rows: added("view", persons(size) + joined, inserted(400 // rows, rows), 3))
+    third = joined.replace("t y WHERE", "t y, t z WHERE z.c0 = y.c0 AND")
+    twin("view of three entries, an INSERT of 1", 100000, lambda size: added("view", persons(size) + third, inserted(20), 1))
+    columns = ", ".join(["c0", "c1"] * 192)
+    twin("view of LIMIT 1,000,000, two columns", 131000, lambda size: used("view", persons(size) + declare % 10**6))
+    twin("view of LIMIT 1,000,000, 384 columns", 131000, lambda size: used("view", persons(size) + declare.replace("c0, c1", columns) % 10**6))
+
+
+def products():
+    """All pairs of two tables, of which one is asked for. The size is that of a table, so half of it has a quarter of the pairs."""
+    query = "SELECT x.c0 FROM t x, t y ORDER BY near(x.c1, y.c1) LIMIT 1;\n"
+    twin("pairs of two tables, LIMIT 1, run", 4000, lambda size: used("run", persons(size) + query))
+    twin("pairs of two tables, LIMIT 1, plain", 4000, lambda size: used("plain", persons(size) + query))
+    twin("pairs of two tables, LIMIT 1, view", 4000, lambda size: used("view", persons(size) + "DECLARE k CURSOR FOR " + query))
+
+
+def equalities():
+    """A self-join by three equal columns and `<`: of each column alone many rows are equal, and few of all three."""
+    def stones(rows):
+        values = (10**6, 60, 7, 8)
+        numbers("t.csv", 4, rows, lambda row, column: draw.randrange(values[column]))
+        return table("t", 4) + PERSONS
+
+    where = " AND ".join(["x.c%d = y.c%d" % (column, column) for column in (1, 2, 3)] + ["x.c0 < y.c0"])
+    query = "SELECT x.c0, y.c0 FROM t x, t y WHERE %s ORDER BY near(x.c0, y.c0) LIMIT 10;\n" % where
+    size = 26970
+    twin("self-join by three equalities, run", size, lambda size: used("run", stones(size) + query))
+    twin("self-join by three equalities, plain", size, lambda size: used("plain", stones(size) + query))
+    twin("self-join by three equalities, view", size, lambda size: used("view", stones(size) + "DECLARE k CURSOR FOR " + query))
+    stones(size)
+    start = time.process_time()
+    connection = sqlite3.connect(":memory:")
+    connection.create_function("near", 2, lambda a, b: 1000000 - abs(a - b), deterministic=True)
+    connection.execute("CREATE TABLE t(c0 INTEGER, c1 INTEGER, c2 INTEGER, c3 INTEGER)")
+    with open("t.csv") as file:
+        connection.executemany("INSERT INTO t VALUES (?, ?, ?, ?)", list(csv.reader(file))[1:])
+    connection.execute("CREATE INDEX i ON t (c1, c2, c3)")
+    connection.execute("SELECT x.c0, y.c0, near(x.c0, y.c0) AS s FROM t x, t y WHERE %s ORDER BY s DESC, x.rowid, y.rowid LIMIT 10" % where).fetchall()
+    print(TWIN % ("the same by SQLite with a function of Python", size, "%.6f" % (time.process_time() - start), *["-"] * 5), flush=True)
+
+
+def texts():
+    """Cells of few different texts beside numbers of as many bytes, in a table of four columns under top."""
+    def top_of(cell):
+        def figure(size):
+            numbers("t.csv", 4, size, cell)
+            status, seconds, memory = run(["top", "t.csv", "c0", "999999", "10"])
+            return seconds, memory / 1024
+
+        return figure
+
+    number = lambda row, column: (row * 7919 + column * 31) % 1000000
+    few = lambda row, column: "text%d" % (row % 20) if column else number(row, 0)
+    many = lambda row, column: "t%d" % number(row, column) if column else number(row, 0)
+    twin("top, four columns of numbers", MOST_ROWS, top_of(number))
+    twin("top, three of them 20 different texts", MOST_ROWS, top_of(few))
+    twin("top, three of them different texts", MOST_ROWS, top_of(many))
+
+
+FORMS = [entries, terms, conjuncts, outputs, cursors, statements, explains, depth, tables, crafted, inserts, views, products, equalities, texts]
 names = [form.__name__ for form in FORMS]
 if any(name not in names for name in wanted):
     sys.exit("bench: the forms are " + ", ".join(names))

@@ -25,7 +25,7 @@ root, work, wanted = sys.argv[1:]
 sys.path.insert(0, root + "/tools")
 from ranksql_tools.advice import Case
 from ranksql_tools.queries import read_queries
-from ranksql_tools.trials import Runner
+from ranksql_tools.runner import Runner
 
 SEED, SECONDS, RUNS = 1, 600, 5
 ROWS = [1000, 2000, 5000, 10000, 20000, 50000, 100000, 131072]

@@ -3,9 +3,11 @@
 from statistics import mean
 from typing import NamedTuple
 
+from .plans import all_combinations
 from .queries import arguments_of, entries_of, indexes_of, key_of_term, sources_of
+from .runner import Failed, TooLong
 from .table_file import name_in_script
-from .trials import Copy, Failed, TooLong, call_of, combinations, greatest_score, rows_of_table
+from .trials import Copy, call_of, combinations, greatest_score, rows_of_table
 
 # Of so many tables this many rows of each are sampled.
 SAMPLED = {1: 256, 2: 64, 3: 24, 4: 12, 5: 8, 6: 6}
@@ -34,7 +36,12 @@ class Case:
 
     def __init__(self, body, query, runner, seeds):
         self.body, self.query, self.runner, self.seeds = body, query, runner, seeds
-        self.trials = {seed: runner.trial(Copy(body, query), seed) for seed in seeds}
+        copy = Copy(body, query)
+        if runner.start_trials(copy, seeds):
+            # Whatever the plans of the query do, it is tried with each index that isn't there, and that runs beside them.
+            for _, key, arguments in missing_indexes(query):
+                runner.start_trials(copy_with_index(body, query, key, arguments), seeds)
+        self.trials = {seed: runner.trial(copy, seed) for seed in seeds}
         self._rows = {}
 
     def rows(self, table):
@@ -92,8 +99,14 @@ class Case:
 
     def combinations(self):
         """How many combinations `plain` scores, or None where counting them takes too long."""
+        blocks = self.query.select.blocks
+        if len(blocks) == 1:
+            shown = (all_combinations(trial.operators, len(sources_of(blocks[0]))) for trial in self.trials.values())
+            count = next((count for count in shown if count is not None), None)
+            if count is not None:
+                return count
         try:
-            return sum(combinations(self.runner, self.body, self.query, number) for number in range(len(self.query.select.blocks)))
+            return sum(combinations(self.runner, self.body, self.query, number) for number in range(len(blocks)))
         except (Failed, TooLong):
             return None
 
@@ -106,6 +119,7 @@ class Case:
 
     def other_trials(self, copy):
         """The runs of a changed copy, or None where one fails or takes too long."""
+        self.runner.start_trials(copy, self.seeds)
         try:
             return {seed: self.runner.trial(copy, seed) for seed in self.seeds}
         except (Failed, TooLong):
@@ -167,29 +181,46 @@ def cheap_with_index(case):
     return sentences
 
 
+def missing_indexes(query):
+    """The rank indexes that aren't there and would serve a term: the number of the term, what tells the index, and its arguments."""
+    seen = set(indexes_of(query))
+    for place, term in enumerate(query.select.terms, 1):
+        for block in query.select.blocks:
+            key = key_of_term(query, block, term)
+            if key is not None and key not in seen:
+                seen.add(key)
+                yield place, key, arguments_of(query, block, term)
+
+
+def create_of(key, arguments):
+    """The statement that makes such an index."""
+    table, name, _ = key
+    return "CREATE RANK INDEX advised ON %s (%s)" % (name_in_script(table), call_of(name, arguments))
+
+
+def copy_with_index(body, query, key, arguments):
+    """A copy of a query with a rank index more, and with a COST by which it is taken."""
+    predicate, copy = query.predicate(key[1]), Copy(body, query)
+    copy.added.append(create_of(key, arguments))
+    if cost_of(predicate) < COST_OF_RANK_SCAN:
+        copy.set_cost(predicate, COST_OF_RANK_SCAN)
+    return copy
+
+
 def on_indexes(case):
     """A rank index that isn't there, where it would save calls."""
-    sentences, seen = [], set()
-    for place, term in case.terms():
-        for block in case.query.select.blocks:
-            key = key_of_term(case.query, block, term)
-            if key is None or key in indexes_of(case.query) or key in seen:
-                continue
-            seen.add(key)
-            sentences += with_index(case, place, term, key, arguments_of(case.query, block, term))
+    sentences = []
+    for place, key, arguments in missing_indexes(case.query):
+        sentences += with_index(case, place, key, arguments)
     return sentences
 
 
-def with_index(case, place, term, key, arguments):
+def with_index(case, place, key, arguments):
     """What a rank index for a term would change, if it saves calls."""
-    table, name, predicate = key[0], key[1], case.query.predicate(key[1])
-    copy = Copy(case.body, case.query)
-    create = "CREATE RANK INDEX advised ON %s (%s)" % (name_in_script(table), call_of(name, arguments))
-    copy.added.append(create)
+    table, name = key[:2]
+    predicate, create = case.query.predicate(name), create_of(key, arguments)
     cheap = cost_of(predicate) < COST_OF_RANK_SCAN
-    if cheap:
-        copy.set_cost(predicate, COST_OF_RANK_SCAN)
-    trials = case.other_trials(copy)
+    trials = case.other_trials(copy_with_index(case.body, case.query, key, arguments))
     if not trials:
         return []
     saved = case.mean_cost() - case.mean_cost(trials)

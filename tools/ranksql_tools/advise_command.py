@@ -9,8 +9,8 @@ from .limits import GREATEST_SEED
 from .program import find_program, helper, no_program
 from .queries import read_queries
 from .refusal import READ, USAGE, Refusal
+from .runner import Failed, Runner, TooLong
 from .script_text import shown, without_mark
-from .trials import Failed, Runner, TooLong
 
 ABOUT = """\
 Says what the queries of a script will cost before they are paid for. The formulas of its predicates stand for the scores, so
@@ -78,21 +78,26 @@ def work(words):
         return 0
     if words.query is not None and not 1 <= words.query <= len(queries):
         raise Refusal(USAGE, "--query %d: the script has %d" % (words.query, len(queries)))
-    status, runner = 0, Runner(program, words.seconds)
-    for query in queries:
-        if words.query is not None and query.number != words.query:
-            continue
-        try:
-            case = Case(body, query, runner, seeds)
-        except Failed as failed:
-            refuse_as_ranksql(program, words.script, raw, words.seconds)
-            raise Refusal(failed.status, failed.line) from None
-        except TooLong:
-            tell("advise", "query %d took more than %g seconds: --seconds sets another limit" % (query.number, words.seconds))
-            status = 1
-            continue
-        print("\n".join(report(body, case)), flush=True)
-    return status
+    if words.query is not None:
+        queries = [queries[words.query - 1]]
+    with Runner(program, words.seconds) as runner:
+        return max(advised(words, raw, body, query, runner, seeds) for query in queries)
+
+
+def advised(words, raw, body, query, runner, seeds):
+    """Prints what is found of a query, and gives the status."""
+    try:
+        case = Case(body, query, runner, seeds)
+    except Failed as failed:
+        runner.drop()
+        refuse_as_ranksql(runner.program, words.script, raw, words.seconds)
+        raise Refusal(failed.status, failed.line) from None
+    except TooLong:
+        runner.drop()
+        tell("advise", "query %d took more than %g seconds: --seconds sets another limit" % (query.number, words.seconds))
+        return 1
+    print("\n".join(report(body, case)), flush=True)
+    return 0
 
 
 def report(body, case):

@@ -1,9 +1,5 @@
 """Runs copies of a script in which the formulas stand for the scores, so that nothing is paid for a call."""
 
-import os
-import subprocess
-import tempfile
-
 from .plans import calls_by_term, read_plan, scanned_terms, shape_of
 from .queries import from_and_where, rows_wanted, sources_of
 from .script_parse import Insert, Predicate, Table
@@ -11,18 +7,6 @@ from .table_file import name_in_script
 
 # The predicate of a copy that counts rows: each of its scores is 0.
 COUNTING = "advise_counts_rows"
-
-
-class Failed(Exception):
-    """A run that ended with a fault: its status, and its line."""
-
-    def __init__(self, status, line):
-        super().__init__(line)
-        self.status, self.line = status, line
-
-
-class TooLong(Exception):
-    """A run that took longer than it may."""
 
 
 class Trial:
@@ -36,38 +20,6 @@ class Trial:
         self.scanned = scanned_terms(self.operators)
 
 
-class Runner:
-    """Runs the program on copies of a script. It remembers what a run printed, since several questions ask for the same."""
-
-    def __init__(self, program, seconds):
-        self.program, self.seconds = program, seconds
-        self._printed = {}
-
-    def printed(self, script, seed):
-        """What a script prints under `run`."""
-        if (script, seed) not in self._printed:
-            self._printed[script, seed] = self.run(script, seed)
-        return self._printed[script, seed]
-
-    def run(self, script, seed):
-        with tempfile.TemporaryDirectory(prefix="advise") as folder:
-            path = os.path.join(folder, "copy.sql")
-            with open(path, "wb") as file:
-                file.write(script)
-            try:
-                ended = subprocess.run([self.program, "run", path, str(seed)], stdin=subprocess.DEVNULL, capture_output=True,
-                                       timeout=self.seconds, check=False)
-            except subprocess.TimeoutExpired:
-                raise TooLong from None
-        if ended.returncode != 0:
-            raise Failed(ended.returncode, ended.stderr.decode("utf-8", "replace").strip())
-        return ended.stdout.decode("utf-8", "replace")
-
-    def trial(self, copy, seed):
-        """What the plan of a copy's query does by a seed."""
-        return Trial(self.printed(copy.script(), seed))
-
-
 class Copy:
     """A copy of the statements that a query stands on, and of the query behind EXPLAIN ANALYZE. Parts of it can be put
     otherwise, and rank indexes added."""
@@ -76,9 +28,13 @@ class Copy:
         self.body, self.query = body, query
         self.changes, self.added = {}, []
 
-    def script(self):
+    def script(self, word=b"EXPLAIN ANALYZE "):
         creates = [self.changed(create.start, create.end) for create in self.query.creates]
-        return b";\n".join(creates + [added.encode() for added in self.added] + [b"EXPLAIN ANALYZE " + self.select()])
+        return b";\n".join(creates + [added.encode() for added in self.added] + [word + self.select()])
+
+    def plan_script(self):
+        """The same without a run of the plan."""
+        return self.script(b"EXPLAIN ")
 
     def changed(self, start, end):
         """The bytes between two places, with the changes in them."""

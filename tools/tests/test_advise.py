@@ -18,10 +18,11 @@ sys.path.insert(0, TOOLS)
 
 from ranksql_tools.advice import Case, cheap_with_index  # noqa: E402
 from ranksql_tools.advise_command import main  # noqa: E402
-from ranksql_tools.plans import calls_by_term, read_plan, scanned_terms, shape_of  # noqa: E402
+from ranksql_tools.plans import all_combinations, calls_by_term, read_plan, scanned_terms, shape_of, with_estimates  # noqa: E402
 from ranksql_tools.program import find_program  # noqa: E402
 from ranksql_tools.queries import indexes_of, key_of_term, read_queries, rows_wanted  # noqa: E402
-from ranksql_tools.trials import Trial  # noqa: E402
+from ranksql_tools.runner import Failed, Runner, TooLong  # noqa: E402
+from ranksql_tools.trials import Copy, Trial  # noqa: E402
 
 PROGRAM = find_program()
 COUNTER = os.environ.get("COUNT_CALLS") or os.path.join(ROOT, "crates", "count_calls", "out", "count_calls")
@@ -94,6 +95,28 @@ class Reading(unittest.TestCase):
         self.assertEqual('Rank term 3\n  HashRankJoin\n    RankScan hotels h term 1\n    SeqScan "a est=3" m\n', shape_of(PLAN))
         self.assertRaises(ValueError, read_plan, "1,2,x\n")
 
+    def test_estimates(self):
+        """The counts of a plan, with the estimates of another one of its shape."""
+        plan = "Rank term 3 est=1 cost=2\n  HashRankJoin est=3 cost=4\n    RankScan hotels h term 1 est=5 cost=6\n    SeqScan \"a est=3\" m est=7 cost=8\n"
+        self.assertEqual(shape_of(PLAN), shape_of(plan))
+        self.assertEqual('''\
+Rank term 3 est=1 cost=2 asked=5 gave=5 calls=121
+  HashRankJoin est=3 cost=4 asked=121 gave=121
+    RankScan hotels h term 1 est=5 cost=6 asked=35 gave=35 drawn=35
+    SeqScan "a est=3" m est=7 cost=8 asked=37 gave=36 drawn=36
+''', with_estimates(PLAN, plan))
+
+    def test_combinations(self):
+        """All combinations are known where an operator over all tables gave its last row, and no DISTINCT lost rows below it."""
+        self.assertIsNone(all_combinations(read_plan(PLAN), 2))
+        ended = PLAN.replace("asked=121 gave=121", "asked=122 gave=121")
+        self.assertEqual(121, all_combinations(read_plan(ended), 2))
+        self.assertIsNone(all_combinations(read_plan(ended), 3))
+        scan = "    SeqScan t t est=7 cost=7 asked=8 gave=7 drawn=9\n"
+        distinct = "Rank term 1 est=7 cost=9 asked=4 gave=3 calls=3\n  Distinct est=7 cost=7 asked=4 gave=3\n"
+        self.assertEqual(7, all_combinations(read_plan(distinct + scan), 1))
+        self.assertIsNone(all_combinations(read_plan(distinct + scan.replace("asked=8", "asked=7")), 1))
+
     def test_queries(self):
         script = FRONT + """CREATE RANK INDEX i ON towns (west(east)); CREATE RANK INDEX j ON towns (apart(size, -5));
         SELECT name FROM towns ORDER BY west(east) LIMIT 3; EXPLAIN SELECT * FROM towns t ORDER BY apart(t.size, -05);
@@ -111,6 +134,9 @@ class Reading(unittest.TestCase):
 
 class Planner:
     """Stands for the program: it takes the scan of a table where no COST is 2, as the planner does where both cost as much."""
+
+    def start_trials(self, copy, seeds):
+        pass
 
     def trial(self, copy, _):
         if b"COST 2" in copy.script():
@@ -130,6 +156,54 @@ class Cost(unittest.TestCase):
             if told:
                 self.assertIn("The COST of big is 1", sentences[0])
                 self.assertIn("at least COST 2: then the plan makes 0 calls in the place of 2,000.", sentences[0])
+
+
+class Runs(InFolder):
+    """Which runs are made, by a program of a shell that writes down what it runs."""
+
+    def runner(self, seconds=20):
+        """It chooses one plan by odd seeds and another one by even ones. A script of the word `wrong` ends with status 7, and one of the
+        word `endless` never."""
+        program = os.path.join(self.folder, "program")
+        self.put("program", f"""#!/bin/sh
+grep -q wrong "$2" && {{ echo bad >&2; exit 7; }}
+grep -q endless "$2" && exec sleep 100
+analyzed=$(grep -c ANALYZE "$2")
+[ "$analyzed" = 1 ] && {{ echo "$3" >>{self.folder}/analyzed; done=' asked=3 gave=3 drawn=3'; }}
+echo "SeqScan towns t$(($3 % 2)) est=$3 cost=9$done"
+""")
+        os.chmod(program, 0o755)
+        return Runner(program, seconds)
+
+    def copy(self, alias="t"):
+        body = (FRONT + f"SELECT name FROM towns {alias} ORDER BY big(size) LIMIT 3").encode()
+        return Copy(body, read_queries(body)[0])
+
+    def test_shapes(self):
+        """A plan of each shape is run once, and each seed has its own estimates."""
+        runner, copy = self.runner(), self.copy()
+        self.assertTrue(runner.start_trials(copy, [1, 2, 3, 4, 5]))
+        texts = [runner.trial(copy, seed).text for seed in (1, 2, 3, 4, 5)]
+        self.assertEqual([f"SeqScan towns t{seed % 2} est={seed} cost=9 asked=3 gave=3 drawn=3\n" for seed in (1, 2, 3, 4, 5)], texts)
+        with open(os.path.join(self.folder, "analyzed"), encoding="utf-8") as file:
+            self.assertEqual(["1", "2"], sorted(file.read().split()))
+
+    def test_faults(self):
+        runner, copy = self.runner(), self.copy("wrong")
+        self.assertFalse(runner.start_trials(copy, [1, 2]))
+        with self.assertRaises(Failed) as fault:
+            runner.trial(copy, 1)
+        self.assertEqual((7, "bad"), (fault.exception.status, fault.exception.line))
+        self.assertRaises(TooLong, self.runner(0.2).trial, self.copy("endless"), 1)
+
+    def test_drop(self):
+        """What runs or waits is ended, and runs anew where it is asked for again."""
+        runner = self.runner()
+        waiting = [runner.start(b"endless %d" % number, 1) for number in range(9)]
+        runner.drop()
+        for run in waiting:
+            self.assertIsNotNone(run.exception(timeout=20))
+        self.assertEqual("SeqScan towns t1 est=1 cost=9\n", runner.printed(b"EXPLAIN", 1))
 
 
 @NEEDS_PROGRAM

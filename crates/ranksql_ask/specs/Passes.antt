@@ -1,7 +1,7 @@
 -- One run over the scores that are known.
 use Rattle.std.specs.Prelude.{ℕ, ℤ, ◌≡◌, ◌++◌, Bool, true, false, List, Option, Some, None}
 use Rattle.rs_value.specs.Outside.{Outside}
-use Rattle.rs_outside.specs.Files.{FilesTold}
+use Rattle.rs_outside.specs.Files.{FilesState, KeepsFiles}
 use Rattle.rs_outside.specs.MemSink.{no_pieces, sink_state}
 use Rattle.rs_events.specs.Environment.{environment}
 use Rattle.rs_run.specs.Outcome.{FormRunsTo}
@@ -10,7 +10,6 @@ use Rattle.rs_run.specs.declared.status.Status.{Status}
 use Rattle.rs_run.specs.declared.status.Status.TheVariants as status
 use Rattle.rs_run.specs.Words.{Form}
 use Rattle.rs_scores.specs.Known.{Known, score_of}
-use Rattle.rs_scores.specs.KnownFiles.{Found}
 use Rattle.rs_scores.specs.TableScorer.{TableScorerState, missing_last, new_scorer, table_state}
 use Rattle.rs_ask.specs.declared.pass.Pass.{Pass}
 
@@ -31,12 +30,8 @@ abbrev pub is_memory : Status → Bool
 is_memory status.Memory = true
 is_memory _ = false
 
--- what was found of the files before is found behind it, first, and in this order: each name that was found has the same bytes
-abbrev pub StaysFound : List Found → List Found → Type 0
-StaysFound old new = (more : List Found) × (new ≡ old ++ more)
-
--- one run of what words of this form ask for over what is known, whose rows go to this sink: its status, its line, how many calls it made, and the question of its last call, where that one failed and its score isn't known, with the greatest score of its predicate
-pub record IsPass (form : Form) (known : Known) (pass : Pass) (old new : Outside FilesTold) (rows puts : Outside (List (List ℕ))) : Type 0 where
+-- one run of what words of this form ask for over what is known, also of the files, whose rows go to this sink: what was known of the files stays known; its status, its line, how many calls it made, and the question of its last call, where that one failed and its score isn't known, with the greatest score of its predicate
+pub record IsPass (form : Form) (known : Known) (pass : Pass) (old new : FilesState) (rows puts : Outside (List (List ℕ))) : Type 0 where
   pub status : Status
   pub scorer : TableScorerState
   pub number : pass.status ≡ exit_status_of status
@@ -44,6 +39,7 @@ pub record IsPass (form : Form) (known : Known) (pass : Pass) (old new : Outside
   pub ran : FormRunsTo (Some form) status
       (environment old (table_state (new_scorer known)) rows (sink_state no_pieces))
       (environment new (table_state scorer) puts (sink_state pass.err))
+  pub kept : KeepsFiles old new
   pub calls : pass.calls ≡ scorer.count
   pub missing : pass.missing ≡ missing_in known status (missing_last known scorer.calls)
   pub most : pass.most ≡ scorer.most

@@ -40,7 +40,7 @@ pub fn command<H: Opens, F: Files, G: Files + Drop, O: Sink, E: Sink>(
     out: O,
     err: &mut E,
 ) -> (u8, O)
-    ensures { Commands (openings H.questions_to H.answers_from H.scores_in H.refuses) (channel_state H.Questions.state H.Answers.state H.Scores.state) (request_of words.now) (known_state (G.state files)) result.0
+    ensures { Commands (openings H.questions_to H.answers_from H.scores_in H.refuses) (channel_state H.Questions.state H.Answers.state H.Scores.state) (request_of words.now) (known_state [] (G.state files)) result.0
         (record { opens = opens.old; kept = F.state kept.old; out = O.state out; err = E.state err.old })
         (record { opens = opens.new; kept = F.state kept.new; out = O.state result.1; err = E.state err.new }) }
 {
@@ -67,7 +67,7 @@ fn answer<H: Opens, F: Files, G: Files + Drop, O: Sink, E: Sink>(
     out: O,
     err: &mut E,
 ) -> (u8, O)
-    ensures { Commands (openings H.questions_to H.answers_from H.scores_in H.refuses) (channel_state H.Questions.state H.Answers.state H.Scores.state) (Some (request_made request.entry)) (known_state (G.state files)) result.0
+    ensures { Commands (openings H.questions_to H.answers_from H.scores_in H.refuses) (channel_state H.Questions.state H.Answers.state H.Scores.state) (Some (request_made request.entry)) (known_state [] (G.state files)) result.0
         (record { opens = opens.old; kept = F.state kept.old; out = O.state out; err = E.state err.old })
         (record { opens = opens.new; kept = F.state kept.new; out = O.state result.1; err = E.state err.new }) }
 {

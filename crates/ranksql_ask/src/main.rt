@@ -4,14 +4,13 @@
 //! Its promise: each run is a run of rs_run over a lawful scorer, which knows at first what the file of known scores holds, and
 //! rs_ask's promise of questions and rows is of these runs; nothing is run where the script makes no predicate of one of the names;
 //! and the lines on standard error and the status are as defined for what it ends with, each refusal with its cause. What the
-//! system does at an opening, a read and a write is only tested.
+//! system answers to an opening, a read and a write is only tested.
 #![tactic(auto)]
 
 mod began;
 mod command;
 mod ending;
 mod fault;
-mod pass_files;
 mod pass_scorer;
 mod script;
 mod words;

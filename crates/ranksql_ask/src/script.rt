@@ -2,10 +2,9 @@ ghost use Rattle.std.specs.Prelude.{◌≡◌, IfSome, IsSome, None};
 ghost use Rattle.rs_scores.specs.Known.{score_of};
 ghost use Rattle.rs_scores.specs.KnownFiles.{known_state};
 ghost use Rattle.ranksql_ask.specs.Parts.Asking.{form_of_asking};
-ghost use Rattle.ranksql_ask.specs.Passes.{IsPass, StaysFound, is_memory, missing_in};
+ghost use Rattle.ranksql_ask.specs.Passes.{IsPass, is_memory, missing_in};
 
 use crate::began::Began;
-use crate::pass_files::PassFiles;
 use crate::pass_scorer::PassScorer;
 use crate::words::Asking;
 use rs_ask::{Pass, Rerun};
@@ -46,22 +45,19 @@ fn is_memory(status: Status) -> bool
     matches!(status, Status::Memory)
 }
 
-/// Runs over the scores that are known, where proofs know which these are, and what was found of the files. Gives the files back.
+/// Runs over the scores that are known, where proofs know which these are. Gives the files back.
 fn run_over<F: Files, O: Sink, B: Began>(
     alloc: Global,
     asking: &Asking<'_>,
     readers: &mut Readers<KnownTables>,
-    files: KnownFiles<F>,
+    mut files: KnownFiles<F>,
     known: &KnownScores,
     out: &mut O,
 ) -> (Pass, KnownFiles<F>)
-    requires known { B.known ≡ known.now }
-    requires found { B.found ≡ files.found }
-    ensures ran { IsPass (form_of_asking asking.now) known.now result.0 (known_state (F.state files.files)) (known_state (F.state result.1.files)) (O.state out.old) (O.state out.new) }
-    ensures found { StaysFound files.found result.1.found }
+    requires { B.known ≡ known.now }
+    ensures ran { IsPass (form_of_asking asking.now) known.now result.0 (known_state files.found (F.state files.files)) (known_state result.1.found (F.state result.1.files)) (O.state out.old) (O.state out.new) }
     ensures missing { IfSome result.0.missing (λ question. score_of question known.now ≡ None) }
 {
-    let mut files = PassFiles::<F, B>::new(files);
     let mut scorer = PassScorer::<B>::new(alloc, known);
     let mut err = MemSink::new(alloc);
     let status = run_file(
@@ -85,7 +81,7 @@ fn run_over<F: Files, O: Sink, B: Began>(
         missing,
         most,
     };
-    (pass, files.into_files())
+    (pass, files)
 }
 
 impl<'a, F: Files + Drop> Rerun for Script<'a, F> {

@@ -32,12 +32,12 @@ use Rattle.rs_bind.proofs.SameTermFacts.{AreArguments-output, same-kinds, terms_
 use Rattle.rs_bind.proofs.TermFacts.{AreArguments-block, AreNeeded, IsLimit-limit_of, terms_of-formed}
 
 -- what the parts of a block are, without its terms
-record HasParts (catalogue : CatalogDef) (written : syntax.Block) (block : Unranked) : Type 0 where
-  from : entries_of catalogue written.from ≡ Ok block.from
-  conjuncts : filter_of (sources_of catalogue block.from) written.filter ≡ Ok block.conjuncts
-  items : items_of (sources_of catalogue block.from) written.items ≡ Ok block.items
+pub record HasParts (catalogue : CatalogDef) (written : syntax.Block) (block : Unranked) : Type 0 where
+  pub from : entries_of catalogue written.from ≡ Ok block.from
+  pub conjuncts : filter_of (sources_of catalogue block.from) written.filter ≡ Ok block.conjuncts
+  pub items : items_of (sources_of catalogue block.from) written.items ≡ Ok block.items
 
-HasParts-unranked_of : (catalogue : CatalogDef) (written : syntax.Block) (block : Unranked) → unranked_of catalogue written ≡ Ok block
+pub HasParts-unranked_of : (catalogue : CatalogDef) (written : syntax.Block) (block : Unranked) → unranked_of catalogue written ≡ Ok block
     → HasParts catalogue written block
 HasParts-unranked_of catalogue written block h =
     let of_items = λ (from : List (ℕ × List ℕ)) (conjuncts : List ConjunctDef) (items : List Found).
@@ -108,16 +108,16 @@ HasOutputs-needed block terms term distinct needed =
     (each-all is_item columns outputs)
 
 -- what a query of one block is made of
-record IsOne (catalogue : CatalogDef) (query : syntax.Query) (bound : Query) : Type 0 where
-  block : Unranked
-  terms : List Term
-  limit : Option ℕ
-  is_block : unranked_of catalogue query.left ≡ Ok block
-  are_terms : terms_of catalogue (block_columns (sources_of catalogue block.from)) (needed_by block) query.terms ≡ Ok terms
-  is_limit : bound_limit query.limit ≡ Ok limit
-  is : One (with_terms block terms) limit ≡ bound
+pub record IsOne (catalogue : CatalogDef) (query : syntax.Query) (bound : Query) : Type 0 where
+  pub block : Unranked
+  pub terms : List Term
+  pub limit : Option ℕ
+  pub is_block : unranked_of catalogue query.left ≡ Ok block
+  pub are_terms : terms_of catalogue (block_columns (sources_of catalogue block.from)) (needed_by block) query.terms ≡ Ok terms
+  pub is_limit : bound_limit query.limit ≡ Ok limit
+  pub is : One (with_terms block terms) limit ≡ bound
 
-IsOne-one_of : (catalogue : CatalogDef) (query : syntax.Query) (bound : Query) → one_of catalogue query ≡ Ok bound → IsOne catalogue query bound
+pub IsOne-one_of : (catalogue : CatalogDef) (query : syntax.Query) (bound : Query) → one_of catalogue query ≡ Ok bound → IsOne catalogue query bound
 IsOne-one_of catalogue query bound h =
     let terms_in = λ (block : Unranked). terms_of catalogue (block_columns (sources_of catalogue block.from)) (needed_by block) query.terms in
     let after_terms = λ (block : Unranked) (terms : List Term). bound_limit query.limit >>= λ limit. well (One (with_terms block terms) limit) in
@@ -151,21 +151,21 @@ one_of-formed catalogue query block terms limit written narrow is_block are_term
     )
 
 -- what a query of two blocks is made of
-record IsSet (catalogue : CatalogDef) (query : syntax.Query) (op : SetOp) (second : syntax.Block) (bound : Query) : Type 0 where
-  left : Unranked
-  right : Unranked
-  terms : List Term
-  others : List Term
-  limit : Option ℕ
-  is_left : unranked_of catalogue query.left ≡ Ok left
-  is_right : unranked_of catalogue second ≡ Ok right
-  agreed : agree left.items right.items ≡ true
-  are_terms : terms_of catalogue (output_columns (output_names catalogue left) left.items) None query.terms ≡ Ok terms
-  are_others : terms_of catalogue (output_columns (output_names catalogue left) right.items) None query.terms ≡ Ok others
-  is_limit : bound_limit query.limit ≡ Ok limit
-  is : Set op (with_terms left terms) (with_terms right others) limit ≡ bound
+pub record IsSet (catalogue : CatalogDef) (query : syntax.Query) (op : SetOp) (second : syntax.Block) (bound : Query) : Type 0 where
+  pub left : Unranked
+  pub right : Unranked
+  pub terms : List Term
+  pub others : List Term
+  pub limit : Option ℕ
+  pub is_left : unranked_of catalogue query.left ≡ Ok left
+  pub is_right : unranked_of catalogue second ≡ Ok right
+  pub agreed : agree left.items right.items ≡ true
+  pub are_terms : terms_of catalogue (output_columns (output_names catalogue left) left.items) None query.terms ≡ Ok terms
+  pub are_others : terms_of catalogue (output_columns (output_names catalogue left) right.items) None query.terms ≡ Ok others
+  pub is_limit : bound_limit query.limit ≡ Ok limit
+  pub is : Set op (with_terms left terms) (with_terms right others) limit ≡ bound
 
-IsSet-set_of : (catalogue : CatalogDef) (query : syntax.Query) (op : SetOp) (second : syntax.Block) (bound : Query)
+pub IsSet-set_of : (catalogue : CatalogDef) (query : syntax.Query) (op : SetOp) (second : syntax.Block) (bound : Query)
     → set_of catalogue query op second ≡ Ok bound → IsSet catalogue query op second bound
 IsSet-set_of catalogue query op second bound h =
     let terms_in = λ (left of : Unranked). terms_of catalogue (output_columns (output_names catalogue left) of.items) None query.terms in

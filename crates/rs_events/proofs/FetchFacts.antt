@@ -1,8 +1,8 @@
 -- What follows of a fetch in the calls above it, whatever the type of faults.
 use Rattle.std.proofs.Common.{ℕ, ◌≡◌, ◌∙◌, ◌++◌, List, [], ◌∷◌, refl, sym, ap, subst, inl, inr}
 use Rattle.std.specs.Prelude.{Option, Some, Result, Ok, Err, ◌⊎◌}
-use Rattle.rs_value.specs.Outside.{Outside}
-use Rattle.rs_outside.specs.Files.{FilesTold}
+use Rattle.rs_outside.specs.Files.{FilesState, finds_in}
+use Rattle.rs_outside.proofs.ContentsFacts.{finds-before}
 use Rattle.rs_events.specs.Environment.{Environment}
 use Rattle.rs_events.specs.Events.{Event, Fetch}
 use Rattle.rs_events.specs.Fetching.{FetchFails, Fetched, FetchesFile, NotFetched}
@@ -10,18 +10,23 @@ use Rattle.rs_events.specs.HaltFaults.{HaltFaults}
 use Rattle.rs_events.specs.Halts.{FetchFailed}
 use Rattle.rs_events.specs.Run.{Run}
 use Rattle.rs_events.specs.Running.{HasDone, Ran}
-use Rattle.rs_events.proofs.RanFacts.{HasDone-files, Ran-all, Ran-no_memory, names-none}
+use Rattle.rs_events.proofs.RanFacts.{HasDone-files, Ran-all, Ran-no_memory, told-none}
 
 -- the same fault, of a call that answers something else
 pub fault-at : {F A B : Type 0} (f g : F) → ◌≡◌ {A = Result A F} (Err f) (Err g) → ◌≡◌ {A = Result B F} (Err f) (Err g)
 fault-at f g e = ap Err (let same : f ≡ g = cc in same)
+
+-- what a fetch found it would have found before
+pub found-before : {F A : Type 0} {memory : F} {Tells : F → Type 0} (file : List ℕ) (result : Result A F) (gives : Option (List ℕ) → Result A F → Type 0) (old new : FilesState)
+    → (f : FetchesFile memory Tells file result gives old new) → finds_in old.contents file f.there
+found-before file result gives old new f = finds-before old.contents new.contents f.keeps.contents file f.there f.is_found
 
 -- a file that was fetched, and what it gives
 pub record IsFetched {F A : Type 0} (file : List ℕ) (a : A) (gives : Result A F → Type 0) (old new : Environment) : Type 0 where
   pub has : HasDone (Fetch file ∷ []) old new
   pub given : gives (Ok a)
 
-pub fetched-ok : {F A : Type 0} {memory : F} {Tells : F → Type 0} (environment : Environment) (files : Outside FilesTold) (file : List ℕ) (a : A) (gives : Option (List ℕ) → Result A F → Type 0)
+pub fetched-ok : {F A : Type 0} {memory : F} {Tells : F → Type 0} (environment : Environment) (files : FilesState) (file : List ℕ) (a : A) (gives : Option (List ℕ) → Result A F → Type 0)
     → (f : FetchesFile memory Tells file (Ok a) gives environment.files files) → IsFetched file a (gives f.there) environment (record environment { files = files })
 fetched-ok {F} {A} {memory} {Tells} environment files file a gives f = go f.does where
   go : (NotFetched {A = A} memory (Ok a) environment.files files ⊎ FetchFails {A = A} memory Tells file (Ok a) environment.files files)
@@ -34,7 +39,7 @@ fetched-ok {F} {A} {memory} {Tells} environment files file a gives f = go f.does
   }
 
 -- a run that begins with a fetch, and ends with the fault that what is there gives
-pub Ran-unfetched : {F A : Type 0} {faults : HaltFaults F} (environment : Environment) (files : Outside FilesTold) (file : List ℕ) (fault : F) (gives : Option (List ℕ) → Result A F → Type 0)
+pub Ran-unfetched : {F A : Type 0} {faults : HaltFaults F} (environment : Environment) (files : FilesState) (file : List ℕ) (fault : F) (gives : Option (List ℕ) → Result A F → Type 0)
     (run : Run F) (more : List Event) → (f : FetchesFile faults.memory (faults.IsFailedFetch file) file (Err fault) gives environment.files files) → run.events ≡ Fetch file ∷ more
     → (gives f.there (Err fault) → run ≡ record { events = Fetch file ∷ []; fault = Some fault }) → Ran faults run (Err fault) environment (record environment { files = files })
 Ran-unfetched {F} {A} {faults} environment files file fault gives run more f begins is = go f.does where
@@ -47,7 +52,7 @@ Ran-unfetched {F} {A} {faults} environment files file fault gives run more f beg
   go : (NotFetched {A = A} faults.memory (Err fault) environment.files files ⊎ FetchFails {A = A} faults.memory (faults.IsFailedFetch file) file (Err fault) environment.files files)
       ⊎ Fetched faults.memory file (gives f.there) (Err fault) environment.files files → Ran faults run (Err fault) environment new
   go (inl (inl nothing)) =
-      cut [] run.events refl (HasDone-files environment files [] (nothing.same ∙ names-none environment.files.told) refl refl f.keeps) nothing.answers
+      cut [] run.events refl (HasDone-files environment files [] (nothing.same ∙ told-none environment.files.outside.told) refl refl f.keeps) nothing.answers
   go (inl (inr failed)) =
       let has = HasDone-files environment files (Fetch file ∷ []) failed.fetched refl refl f.keeps in
       elim failed.answers [

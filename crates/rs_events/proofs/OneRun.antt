@@ -1,8 +1,8 @@
 -- Commands have one run at most, where each does one thing at most; and a name has one file at most where files stay as they are.
 use Rattle.std.proofs.Common.{ℕ, ◌≡◌, ◌∙◌, List, [], ◌∷◌, sym, ap, subst}
-use Rattle.std.specs.Prelude.{Option, Some, Result, Ok, Err}
-use Rattle.rs_outside.specs.Files.{FilesTold}
-use Rattle.rs_events.specs.Events.{Event, Finds, finds_in, found_in}
+use Rattle.std.specs.Prelude.{Option, Result, Ok, Err}
+use Rattle.rs_outside.specs.Files.{Finds, found_in}
+use Rattle.rs_events.specs.Events.{Event}
 use Rattle.rs_events.specs.Run.{Run, behind}
 use Rattle.rs_events.specs.Sequence.{RunOf, RunsOn, Step}
 
@@ -22,9 +22,6 @@ RunOf-one does one state (command ∷ rest) a b p q =
 abbrev pub OneFile : Finds → Type 0
 OneFile finds = (name : List ℕ) (a b : Option (List ℕ)) → finds name a → finds name b → a ≡ b
 
--- files that stay as they are have one under a name at most, and so have those that are told
+-- files that stay as they are have one under a name at most
 pub found-one : (there : List ℕ → Option (List ℕ)) → OneFile (found_in there)
 found-one there name a b p q = sym p ∙ q
-
-pub told-one : (told : FilesTold) → OneFile (finds_in (Some told))
-told-one told name a b p q = sym p ∙ q

@@ -3,7 +3,8 @@ use Rattle.std.proofs.Common.{ℕ, ◌≡◌, ◌∙◌, ◌++◌, List, [], ◌
 use Rattle.std.specs.Prelude.{Option, Result, Ok, Err, option_map}
 use Rattle.rs_value.specs.Outside.{Counts, Faulted, Keeps, Outside}
 use Rattle.rs_value.proofs.OutsideFacts.{Faulted-from, Faulted-one, Keeps-refl, Keeps-then}
-use Rattle.rs_outside.specs.Files.{FilesTold}
+use Rattle.rs_outside.specs.Files.{FilesState, KeepsFiles}
+use Rattle.rs_outside.proofs.ContentsFacts.{KeepsFiles-refl, KeepsFiles-then}
 use Rattle.rs_outside.specs.Sink.{IsPrefix, Puts}
 use Rattle.rs_outside.specs.declared.sink.SinkFault.{SinkFault}
 use Rattle.rs_outside.specs.declared.sink.SinkFault.TheVariants.{Failed, Memory}
@@ -63,23 +64,14 @@ pub told-more : {A : Type 0} (first more : List A) (told : Option (List A))
 told-more first more None = refl
 told-more first more (Some held) = ap Some (append_assoc held first more)
 
-pub names-none : (told : Option FilesTold) → told ≡ option_map (fetched_more []) told
-names-none None = refl
-names-none (Some told) = ap (λ names. Some (record told { fetched = names })) (sym (append-nil told.fetched))
-
-pub names-more : (first more : List (List ℕ)) (told : Option FilesTold)
-    → option_map (fetched_more more) (option_map (fetched_more first) told) ≡ option_map (fetched_more (first ++ more)) told
-names-more first more None = refl
-names-more first more (Some told) = ap (λ names. Some (record told { fetched = names })) (append_assoc told.fetched first more)
-
 -- no event, and events behind others
 pub Done-none : (environment : Environment) → Done [] environment environment
-Done-none environment = record { fetched = names-none environment.files.told; called = Made-none environment.scorer; put = told-none environment.out.told }
+Done-none environment = record { fetched = told-none environment.files.outside.told; called = Made-none environment.scorer; put = told-none environment.out.told }
 
 pub Done-append : (first more : List Event) (old middle new : Environment) → Done first old middle → Done more middle new → Done (first ++ more) old new
 Done-append first more old middle new one two = record {
-  fetched = two.fetched ∙ ap (option_map (fetched_more (fetches more))) one.fetched ∙ names-more (fetches first) (fetches more) old.files.told
-      ∙ ap (λ names. option_map (fetched_more names) old.files.told) (sym (fetches-append first more));
+  fetched = two.fetched ∙ ap (option_map (fetched_more (fetches more))) one.fetched ∙ told-more (fetches first) (fetches more) old.files.outside.told
+      ∙ ap (λ names. option_map (fetched_more names) old.files.outside.told) (sym (fetches-append first more));
   called = subst (λ all. Made all old.scorer new.scorer) (sym (calls-append first more))
       (Made-append (calls first) (calls more) old.scorer middle.scorer new.scorer one.called two.called);
   put = two.put ∙ ap (option_map (λ held. held ++ puts more)) one.put ∙ told-more (puts first) (puts more) old.out.told
@@ -87,11 +79,11 @@ Done-append first more old middle new one two = record {
 }
 
 pub KeepsEnvironment-refl : (environment : Environment) → KeepsEnvironment environment environment
-KeepsEnvironment-refl environment = record { files = Keeps-refl environment.files; scorer = KeepsScorer-refl environment.scorer; out = Keeps-refl environment.out; err = Keeps-refl environment.err; references = refl }
+KeepsEnvironment-refl environment = record { files = KeepsFiles-refl environment.files; scorer = KeepsScorer-refl environment.scorer; out = Keeps-refl environment.out; err = Keeps-refl environment.err; references = refl }
 
 pub KeepsEnvironment-then : (old middle new : Environment) → KeepsEnvironment old middle → KeepsEnvironment middle new → KeepsEnvironment old new
 KeepsEnvironment-then old middle new one two = record {
-  files = Keeps-then old.files middle.files new.files one.files two.files;
+  files = KeepsFiles-then old.files middle.files new.files one.files two.files;
   scorer = KeepsScorer-then old.scorer middle.scorer new.scorer one.scorer two.scorer;
   out = Keeps-then old.out middle.out new.out one.out two.out;
   err = Keeps-then old.err middle.err new.err one.err two.err;
@@ -108,8 +100,8 @@ HasDone-append first more old middle new one two = record {
 }
 
 -- what was done with one of the objects, beside others that stay as they are
-pub HasDone-files : (environment : Environment) (files : Outside FilesTold) (events : List Event) → files.told ≡ option_map (fetched_more (fetches events)) environment.files.told
-    → calls events ≡ [] → puts events ≡ [] → Keeps environment.files files → HasDone events environment (record environment { files = files })
+pub HasDone-files : (environment : Environment) (files : FilesState) (events : List Event) → files.outside.told ≡ option_map (fetched_more (fetches events)) environment.files.outside.told
+    → calls events ≡ [] → puts events ≡ [] → KeepsFiles environment.files files → HasDone events environment (record environment { files = files })
 HasDone-files environment files events fetched uncalled unput keeps = record {
   all = record {
     fetched = fetched;
@@ -123,22 +115,22 @@ pub HasDone-scorer : (environment : Environment) (scorer : ScorerState) (made : 
     → HasDone (map Score made) environment (record environment { scorer = scorer })
 HasDone-scorer environment scorer made called keeps = record {
   all = record {
-    fetched = names-none environment.files.told ∙ ap (λ names. option_map (fetched_more names) environment.files.told) (sym (fetches-scores made));
+    fetched = told-none environment.files.outside.told ∙ ap (λ names. option_map (fetched_more names) environment.files.outside.told) (sym (fetches-scores made));
     called = subst (λ all. Made all environment.scorer scorer) (sym (calls-scores made)) called;
     put = told-none environment.out.told ∙ ap (λ all. option_map (λ held. held ++ all) environment.out.told) (sym (puts-scores made));
   };
-  keeps = record { files = Keeps-refl environment.files; scorer = keeps; out = Keeps-refl environment.out; err = Keeps-refl environment.err; references = refl };
+  keeps = record { files = KeepsFiles-refl environment.files; scorer = keeps; out = Keeps-refl environment.out; err = Keeps-refl environment.err; references = refl };
 }
 
 pub HasDone-out : (environment : Environment) (out : Outside (List (List ℕ))) (events : List Event) → out.told ≡ option_map (λ held. held ++ puts events) environment.out.told
     → fetches events ≡ [] → calls events ≡ [] → Keeps environment.out out → HasDone events environment (record environment { out = out })
 HasDone-out environment out events put unfetched uncalled keeps = record {
   all = record {
-    fetched = names-none environment.files.told ∙ ap (λ names. option_map (fetched_more names) environment.files.told) (sym unfetched);
+    fetched = told-none environment.files.outside.told ∙ ap (λ names. option_map (fetched_more names) environment.files.outside.told) (sym unfetched);
     called = subst (λ all. Made all environment.scorer environment.scorer) (sym uncalled) (Made-none environment.scorer);
     put = put;
   };
-  keeps = record { files = Keeps-refl environment.files; scorer = KeepsScorer-refl environment.scorer; out = keeps; err = Keeps-refl environment.err; references = refl };
+  keeps = record { files = KeepsFiles-refl environment.files; scorer = KeepsScorer-refl environment.scorer; out = keeps; err = Keeps-refl environment.err; references = refl };
 }
 
 -- all events of a run were done
@@ -218,7 +210,7 @@ HaltsAt-later Ended rest old middle new keeps halts = halts
 HaltsAt-later NoMemory rest old middle new keeps halts = tt
 HaltsAt-later (PutFailed part) rest old middle new keeps halts =
     (halts.0, halts.1, halts.2, halts.3, Faulted-from old.out middle.out new.out keeps.out halts.4)
-HaltsAt-later (FetchFailed name) rest old middle new keeps halts = (halts.0, halts.1, Faulted-from old.files middle.files new.files keeps.files halts.2)
+HaltsAt-later (FetchFailed name) rest old middle new keeps halts = (halts.0, halts.1, Faulted-from old.files.outside middle.files.outside new.files.outside keeps.files.outside halts.2)
 HaltsAt-later (CallFailed call) rest old middle new keeps halts =
     (halts.0, halts.1, Faulted-from old.scorer.outside middle.scorer.outside new.scorer.outside keeps.scorer.outside halts.2)
 

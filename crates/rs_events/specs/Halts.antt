@@ -1,20 +1,19 @@
 -- How far the events of a run were done, and what stopped them.
 use Rattle.std.specs.Prelude.{ℕ, ◌≡◌, ⊤, List, [], ◌∷◌, ◌++◌, option_map}
 use Rattle.rs_value.specs.Outside.{Faulted}
-use Rattle.rs_outside.specs.Files.{FilesTold}
 use Rattle.rs_outside.specs.Sink.{IsPrefix}
 use Rattle.rs_expr.specs.Scoring.{Made}
 use Rattle.rs_expr.specs.declared.scorer.Call.{Call}
 use Rattle.rs_events.specs.Environment.{Environment}
 use Rattle.rs_events.specs.Events.{Event, Fetch, Put, Score, calls, fetches, puts}
 
--- what files tell when these names were fetched too
-abbrev pub fetched_more : List (List ℕ) → FilesTold → FilesTold
-fetched_more names told = record told { fetched = told.fetched ++ names }
+-- the names that were fetched, when these were fetched too
+abbrev pub fetched_more : List (List ℕ) → List (List ℕ) → List (List ℕ)
+fetched_more names told = told ++ names
 
 -- these events were done, and no others: these names were fetched, these calls made, and these pieces put, each in this order
 pub record Done (events : List Event) (old new : Environment) : Type 0 where
-  pub fetched : new.files.told ≡ option_map (fetched_more (fetches events)) old.files.told
+  pub fetched : new.files.outside.told ≡ option_map (fetched_more (fetches events)) old.files.outside.told
   pub called : Made (calls events) old.scorer new.scorer
   pub put : new.out.told ≡ option_map (λ pieces. pieces ++ puts events) old.out.told
 
@@ -41,7 +40,7 @@ HaltsAt Ended rest old new = rest ≡ []
 HaltsAt NoMemory rest old new = ⊤
 HaltsAt (PutFailed part) rest old new =
     (bytes : List ℕ) × (more : List Event) × (rest ≡ Put bytes ∷ more) × IsPrefix part bytes × Faulted old.out new.out
-HaltsAt (FetchFailed name) rest old new = (more : List Event) × (rest ≡ Fetch name ∷ more) × Faulted old.files new.files
+HaltsAt (FetchFailed name) rest old new = (more : List Event) × (rest ≡ Fetch name ∷ more) × Faulted old.files.outside new.files.outside
 HaltsAt (CallFailed call) rest old new = (more : List Event) × (rest ≡ Score call ∷ more) × Faulted old.scorer.outside new.scorer.outside
 
 -- which of these events were done: all, or those before a halt, with what the halt itself did; and no others

@@ -34,7 +34,7 @@ pub still-counts : (side : ℕ) (object : Outside (List FeedRow)) → Counts (fa
 still-counts side object = counts-from object object (counts-none object) (λ e. broken-failed (err-same Broken (Failed side) e))
 
 -- a side of a feed that tells its rows
-may-tell : (number : ℕ) (failed : Bool) (feed : FeedState) (side : FeedSide) (result : Result (Option FeedPair) JoinFault) (rows : List FeedRow) → feed.outside.told ≡ Some rows → HaveScores rows → IsDrawnOf failed feed side → HasRefused number rows side result → MayBe number rows side result
+pub may-tell : (number : ℕ) (failed : Bool) (feed : FeedState) (side : FeedSide) (result : Result (Option FeedPair) JoinFault) (rows : List FeedRow) → feed.outside.told ≡ Some rows → HaveScores rows → IsDrawnOf failed feed side → HasRefused number rows side result → MayBe number rows side result
 may-tell number failed feed side result rows told scores drawn refused = record {
   scores = scores;
   begins = subst (λ t. IfSome t (λ rows. BeginsWith rows side.rows)) told drawn.rows;

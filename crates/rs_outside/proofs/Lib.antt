@@ -1,3 +1,4 @@
+pub mod ContentsFacts
 pub mod FetchFacts
 pub mod FolderFacts
 pub mod PieceFacts

@@ -1,5 +1,5 @@
 -- Reading a file of the system.
-use Rattle.std.specs.Prelude.{ℕ, ◌≡◌, ◌+◌, ◌<◌, ◌≤◌, List, ◌++◌, length, Option, Some, None, IfSome, Result, Ok, Err}
+use Rattle.std.specs.Prelude.{ℕ, ◌≡◌, ◌+◌, ◌<◌, ◌≤◌, false, List, ◌++◌, length, Option, Some, None, IfSome, Result, Ok, Err}
 use Rattle.std.specs.declared.io.ErrorKind.{ErrorKind}
 use Rattle.std.specs.declared.io.ErrorKind.TheVariants.{NotFound, OutOfMemory}
 use Rattle.rs_outside.specs.declared.answered.Answered.{Answered}
@@ -8,8 +8,8 @@ use Rattle.rs_outside.specs.declared.files.FetchFault.{FetchFault}
 use Rattle.rs_outside.specs.declared.files.FetchFault.TheVariants.{Missing, TooLong, Failed, Memory}
 use Rattle.std.specs.Io.KnownBytes.{Consumes}
 use Rattle.rs_value.specs.Faults.{raised}
-use Rattle.rs_value.specs.Outside.{Outside, untold}
-use Rattle.rs_outside.specs.Files.{FilesTold}
+use Rattle.rs_value.specs.Outside.{untold}
+use Rattle.rs_outside.specs.Files.{FilesState}
 use Rattle.rs_outside.specs.Sink.{IsPrefix}
 
 -- the fault that an error of the system is when a file is opened
@@ -61,9 +61,9 @@ pub record DirFilesState : Type 0 where
   pub faults : ℕ
   pub last : Option Answered
 
--- what contracts see of the files of the system
-abbrev pub disk_state : DirFilesState → Outside FilesTold
-disk_state files = untold files.faults
+-- what contracts see of the files of the system: nothing is known of a file, which may change at any time
+abbrev pub disk_state : DirFilesState → FilesState
+disk_state files = record { outside = untold files.faults; contents = λ name. None; remembers = false }
 
 -- the count of faults after a fetch with this answer
 abbrev pub faults_after_fetch : Result (Unit {0}) FetchFault → ℕ → ℕ

@@ -1,11 +1,10 @@
 -- Files in memory: what they hold, and what each call does to it.
-use Rattle.std.specs.Prelude.{ℕ, ◌+◌, ◌==◌, nat_le, Bool, List, [], ◌∷◌, ◌++◌, length, Option, Some, None, Result, Ok, Err, if◌then◌else◌}
+use Rattle.std.specs.Prelude.{ℕ, ◌+◌, ◌==◌, nat_le, Bool, true, List, [], ◌∷◌, ◌++◌, length, Option, Some, None, Result, Ok, Err, if◌then◌else◌}
 use Rattle.std.specs.List.{list_any}
 use Rattle.rs_outside.specs.declared.files.FetchFault.{FetchFault}
 use Rattle.rs_outside.specs.declared.files.FetchFault.TheVariants.{Missing, TooLong, Failed, Memory}
 use Rattle.rs_value.specs.Faults.{raised}
-use Rattle.rs_value.specs.Outside.{Outside}
-use Rattle.rs_outside.specs.Files.{Folder, FilesTold, file_named, with_file}
+use Rattle.rs_outside.specs.Files.{FilesState, Folder, all_known, file_named, with_file}
 
 -- the files, the names that were fetched, the numbers of the fetches that are to fail, and how many failed
 pub record MemFilesState : Type 0 where
@@ -50,9 +49,9 @@ after_fetch name (Err TooLong) state = record state { fetched = state.fetched ++
 after_fetch name (Ok done) state = record state { fetched = state.fetched ++ name ∷ [] }
 
 -- what contracts see of files in memory: they tell all, and are steady where no fetch is to fail
-abbrev pub files_state : MemFilesState → Outside FilesTold
+abbrev pub files_state : MemFilesState → FilesState
 files_state state = record {
-  told = Some (record { folder = state.folder; fetched = state.fetched });
-  faults = state.faults;
-  steady = length state.failing == 0;
+  outside = record { told = Some state.fetched; faults = state.faults; steady = length state.failing == 0 };
+  contents = all_known (λ name. file_named name state.folder);
+  remembers = true;
 }

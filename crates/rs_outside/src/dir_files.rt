@@ -166,7 +166,7 @@ impl<R: std::rt::Files> Files for DirFiles<R> {
 
     fn fetch(&mut self, name: &Text, limit: usize, into: &mut Vec<u8>) -> Result<(), FetchFault>
         ensures fetches { (there : Option (List ℕ)) × Fetches there limit into.old.items result into.new.items }
-        ensures counts { Counts (result ≡ Err FetchFault.Failed) (disk_state self.old) (disk_state self.new) }
+        ensures counts { Counts (result ≡ Err FetchFault.Failed) (disk_state self.old).outside (disk_state self.new).outside }
 
         // A file was opened, or was not, and the bytes are those of what was opened.
         ensures opened { (opened : Result R.File Error)

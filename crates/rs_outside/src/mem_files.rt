@@ -1,8 +1,8 @@
-ghost use Rattle.std.specs.Prelude.{◌≡◌, MatchOption, ℕ, List, Option, Some, None, IfSome, option_map, OnOk, OnErr, position};
+ghost use Rattle.std.specs.Prelude.{◌≡◌, MatchOption, Some, None, option_map, OnOk, OnErr, position};
 ghost use Rattle.std.specs.Str.{bytes_eq};
 ghost use Rattle.rs_value.specs.Answer.{Gives};
 ghost use Rattle.rs_value.specs.Outside.{Counts};
-ghost use Rattle.rs_outside.specs.Files.{file_named, Fetches, told_after};
+ghost use Rattle.rs_outside.specs.Files.{file_named, Fetches, FindsFile, StaysKnown, told_after};
 ghost use Rattle.rs_outside.specs.MemFiles.{no_files, after_add, after_fail_at, is_fetch_planned, found_answer, fetch_answer, after_fetch, files_state};
 
 use crate::files::{FetchFault, Files};
@@ -166,10 +166,10 @@ impl Files for MemFiles {
     ghost state = { files_state };
 
     fn fetch(&mut self, name: &Text, limit: usize, into: &mut Vec<u8>) -> Result<(), FetchFault>
-        ensures fetches { (there : Option (List ℕ)) × IfSome (files_state self.old).told (λ t. file_named name.now t.folder ≡ there)
-            × Fetches there limit into.old.items result into.new.items }
-        ensures told { (files_state self.new).told ≡ option_map (told_after name.now result) (files_state self.old).told }
-        ensures counts { Counts (result ≡ Err FetchFault.Failed) (files_state self.old) (files_state self.new) }
+        ensures fetches { FindsFile name.now limit result into.old.items into.new.items (files_state self.new) }
+        ensures stays_known { StaysKnown (files_state self.old).contents (files_state self.new).contents }
+        ensures told { (files_state self.new).outside.told ≡ option_map (told_after name.now result) (files_state self.old).outside.told }
+        ensures counts { Counts (result ≡ Err FetchFault.Failed) (files_state self.old).outside (files_state self.new).outside }
 
         // The answer, which only want of memory can replace, and what the call leaves.
         ensures answer { Gives FetchFault.Memory (fetch_answer name.now limit self.old) result }

@@ -1,1 +1,4 @@
+pub mod DirEnds
 pub mod Preparing
+pub mod Questions
+pub mod Seeing

@@ -1,14 +1,12 @@
 -- What stands ready before the first run, and why nothing does.
 use Rattle.std.specs.Prelude.{ℕ, ◌≡◌, List, Result, Ok, Err}
-use Rattle.rs_value.specs.Outside.{Outside}
-use Rattle.rs_outside.specs.Files.{FilesTold}
+use Rattle.rs_outside.specs.Files.{FilesState}
 use Rattle.rs_outside.specs.declared.files.FetchFault.TheVariants as fetch
 use Rattle.rs_events.specs.Fetching.{FetchesFile}
 use Rattle.rs_scores.specs.Known.{Known}
 use Rattle.rs_scores.specs.KnownBy.{IsKnownBy}
 use Rattle.rs_scores.specs.declared.scores_fault.ScoresFault.{ScoresFault}
 use Rattle.rs_scores.specs.declared.scores_fault.ScoresFault.TheVariants as scores
-use Rattle.rs_ask.specs.declared.channel.Channel.{Channel}
 use Rattle.rs_prepare.specs.declared.fault.PrepareFault.{PrepareFault}
 use Rattle.rs_prepare.specs.declared.fault.PrepareFault.TheVariants.{Unopened, Unread}
 use Rattle.rs_prepare.specs.declared.open_fault.End.{End}
@@ -26,50 +24,40 @@ pub record EndWords : Type 0 where
 abbrev pub end_words : EndNames → EndWords
 end_words ends = record { scores = ends.scores.now; questions = ends.questions.now; answers = ends.answers.now }
 
--- the name of the file of an end
-abbrev pub word_of : End → EndWords → List ℕ
-word_of Questions words = words.questions
-word_of Answers words = words.answers
-word_of Scores words = words.scores
-
--- what objects that open files say: that what is put, read or kept here is in the file of a name, and how they may refuse to open a file
+-- what an object that opens files says: that it opens the file of a name for an end so, or refuses to, and what it is afterwards
 pub record Openings (H Q A K : Type 0) : Type 1 where
-  pub questions_to : Q → List ℕ → Type 0
-  pub answers_from : A → List ℕ → Type 0
-  pub scores_in : K → List ℕ → Type 0
-  pub refuses : H → End → List ℕ → OpenFault → Type 0
+  pub questions_to : H → List ℕ → Q → H → Type 0
+  pub answers_from : H → List ℕ → A → H → Type 0
+  pub scores_in : H → List ℕ → K → H → Type 0
+  pub refuses : H → End → List ℕ → OpenFault → H → Type 0
 
-abbrev pub openings : {H Q A K : Type 0} → (Q → List ℕ → Type 0) → (A → List ℕ → Type 0) → (K → List ℕ → Type 0) → (H → End → List ℕ → OpenFault → Type 0) → Openings H Q A K
+abbrev pub openings : {H Q A K : Type 0} → (H → List ℕ → Q → H → Type 0) → (H → List ℕ → A → H → Type 0) → (H → List ℕ → K → H → Type 0) → (H → End → List ℕ → OpenFault → H → Type 0) → Openings H Q A K
 openings questions_to answers_from scores_in refuses = record { questions_to = questions_to; answers_from = answers_from; scores_in = scores_in; refuses = refuses }
 
--- the files of a channel are those of these names
-pub record AreOpened {H Q A K : Type 0} (outside : Openings H Q A K) (words : EndWords) (channel : Channel Q A K) : Type 0 where
-  pub questions : outside.questions_to channel.questions words.questions
-  pub answers : outside.answers_from channel.answers words.answers
-  pub scores : outside.scores_in channel.scores words.scores
-
--- the outside refused to open the file of this end so
-abbrev pub Refused : {H Q A K : Type 0} → Openings H Q A K → EndWords → End → OpenFault → Type 0
-Refused {H = H} outside words end fault = (at : H) × outside.refuses at end (word_of end words) fault
-
--- the files of questions and of answers are opened, or one of them is refused
-abbrev pub Opened : {H Q A K : Type 0} → Openings H Q A K → EndWords → Result (Q × A) PrepareFault → Type 0
-Opened outside words (Ok pair) = outside.questions_to pair.0 words.questions × outside.answers_from pair.1 words.answers
-Opened outside words (Err (Unopened Scores fault)) = ⊥
-Opened outside words (Err (Unopened end fault)) = Refused outside words end fault
-Opened outside words (Err (Unread fault)) = ⊥
+-- the file of questions was opened and then that of answers, or one of them was refused, and nothing was opened behind it
+abbrev pub Opened : {H Q A K : Type 0} → Openings H Q A K → EndWords → Result (Q × A) PrepareFault → H → H → Type 0
+Opened {H = H} outside words (Ok pair) old new = (asks : H) × outside.questions_to old words.questions pair.0 asks × outside.answers_from asks words.answers pair.1 new
+Opened outside words (Err (Unopened Scores fault)) old new = ⊥
+Opened outside words (Err (Unopened Questions fault)) old new = outside.refuses old Questions words.questions fault new
+Opened {H = H} {Q = Q} outside words (Err (Unopened Answers fault)) old new =
+    (questions : Q) × (asks : H) × outside.questions_to old words.questions questions asks × outside.refuses asks Answers words.answers fault new
+Opened outside words (Err (Unread fault)) old new = ⊥
 
 -- what is known was read from the file of scores of this name, or not, for this reason
-abbrev pub ReadsKnown : List (List ℕ) → List ℕ → Result Known ScoresFault → Outside FilesTold → Outside FilesTold → Type 0
+abbrev pub ReadsKnown : List (List ℕ) → List ℕ → Result Known ScoresFault → FilesState → FilesState → Type 0
 ReadsKnown names file result old new = FetchesFile scores.Memory (λ why. why ≡ scores.Fetch fetch.Failed) file result (IsKnownBy names) old new
 
--- what was fetched before an end was opened: nothing before the file of scores, and that file before the others
-abbrev pub ReadsBefore : List (List ℕ) → List ℕ → End → Outside FilesTold → Outside FilesTold → Type 0
-ReadsBefore names file Scores old new = new ≡ old
-ReadsBefore names file end old new = (known : Known) × ReadsKnown names file (Ok known) old new
+-- the file of scores was opened first, and what is known was read from it; and the object that opens files behind that
+pub record HasKnown {H Q A K : Type 0} (outside : Openings H Q A K) (names : List (List ℕ)) (words : EndWords) (scores : K) (known : Known) (before after : H) (old new : FilesState) : Type 0 where
+  pub opened : outside.scores_in before words.scores scores after
+  pub reads : ReadsKnown names words.scores (Ok known) old new
 
--- what is known and a channel stand ready; or an end is not opened, or what is known can't be read
-abbrev pub Prepares : {H Q A K : Type 0} → Openings H Q A K → List (List ℕ) → EndWords → Result (Prepared Q A K) PrepareFault → Outside FilesTold → Outside FilesTold → Type 0
-Prepares outside names words (Ok prepared) old new = ReadsKnown names words.scores (Ok prepared.known) old new × AreOpened outside words prepared.channel
-Prepares outside names words (Err (Unopened end fault)) old new = Refused outside words end fault × ReadsBefore names words.scores end old new
-Prepares outside names words (Err (Unread fault)) old new = ReadsKnown names words.scores (Err fault) old new
+-- what is known and a channel stand ready: the file of scores was opened and read, and then those of questions and answers were opened; or the first of these that failed is told, and nothing was done behind it
+abbrev pub Prepares : {H Q A K : Type 0} → Openings H Q A K → List (List ℕ) → EndWords → Result (Prepared Q A K) PrepareFault → H → H → FilesState → FilesState → Type 0
+Prepares {H = H} outside names words (Ok prepared) before after old new =
+    (opened : H) × HasKnown outside names words prepared.channel.scores prepared.known before opened old new × Opened outside words (Ok (prepared.channel.questions, prepared.channel.answers)) opened after
+Prepares outside names words (Err (Unopened Scores fault)) before after old new = outside.refuses before Scores words.scores fault after × (new ≡ old)
+Prepares {H = H} {K = K} outside names words (Err (Unopened end fault)) before after old new =
+    (opened : H) × (scores : K) × (known : Known) × HasKnown outside names words scores known before opened old new × Opened outside words (Err (Unopened end fault)) opened after
+Prepares {K = K} outside names words (Err (Unread fault)) before after old new =
+    (scores : K) × outside.scores_in before words.scores scores after × ReadsKnown names words.scores (Err fault) old new

@@ -17,17 +17,17 @@ pub trait Opens {
 
     type Scores: Sink + Drop;
 
-    /// What is put here goes to the file of this name, as questions.
-    ghost questions_to: { Self.Questions → List ℕ → Type 0 };
+    /// The object opens the file of this name for questions, and what is put here goes to it; and the object afterwards.
+    ghost questions_to: { Self → List ℕ → Self.Questions → Self → Type 0 };
 
-    /// What is read here comes from the file of this name.
-    ghost answers_from: { Self.Answers → List ℕ → Type 0 };
+    /// It opens the file of this name for answers, and what is read here comes from it.
+    ghost answers_from: { Self → List ℕ → Self.Answers → Self → Type 0 };
 
-    /// What is put here stands behind the end of the file of this name.
-    ghost scores_in: { Self.Scores → List ℕ → Type 0 };
+    /// It opens the file of this name for scores, and what is put here stands behind its end.
+    ghost scores_in: { Self → List ℕ → Self.Scores → Self → Type 0 };
 
-    /// The object may refuse to open the file of this name for this end so.
-    ghost refuses: { Self → Of → List ℕ → Fault → Type 0 };
+    /// It refuses to open the file of this name for this end so.
+    ghost refuses: { Self → Of → List ℕ → Fault → Self → Type 0 };
 
     /// Opens the file of known scores, to write behind its end. It is made where it isn't there, and it is locked as long as it is
     /// open, where the system can lock it.
@@ -38,8 +38,8 @@ pub trait Opens {
     /// - `Output`, `Error`, `Scores`, `Questions`: which file it is then.
     /// - `Memory`: where the outside has none.
     fn open_scores(&mut self, name: &Text) -> Result<Self::Scores, OpenFault>
-        ensures opened { IfOk result (λ file. scores_in file name.now) }
-        ensures refused { IfErr result (λ fault. refuses self.old End.Scores name.now fault) };
+        ensures opened { IfOk result (λ file. scores_in self.old name.now file self.new) }
+        ensures refused { IfErr result (λ fault. refuses self.old End.Scores name.now fault self.new) };
 
     /// Opens the file of questions.
     ///
@@ -49,8 +49,8 @@ pub trait Opens {
     /// - `Output`, `Error`, `Scores`, `Questions`: which file it is then.
     /// - `Memory`: where the outside has none.
     fn open_questions(&mut self, name: &Text) -> Result<Self::Questions, OpenFault>
-        ensures opened { IfOk result (λ file. questions_to file name.now) }
-        ensures refused { IfErr result (λ fault. refuses self.old End.Questions name.now fault) };
+        ensures opened { IfOk result (λ file. questions_to self.old name.now file self.new) }
+        ensures refused { IfErr result (λ fault. refuses self.old End.Questions name.now fault self.new) };
 
     /// Opens the file of answers.
     ///
@@ -60,6 +60,6 @@ pub trait Opens {
     /// - `Output`, `Error`, `Scores`, `Questions`: which file it is then.
     /// - `Memory`: where the outside has none.
     fn open_answers(&mut self, name: &Text) -> Result<Self::Answers, OpenFault>
-        ensures opened { IfOk result (λ file. answers_from file name.now) }
-        ensures refused { IfErr result (λ fault. refuses self.old End.Answers name.now fault) };
+        ensures opened { IfOk result (λ file. answers_from self.old name.now file self.new) }
+        ensures refused { IfErr result (λ fault. refuses self.old End.Answers name.now fault self.new) };
 }

@@ -1,5 +1,5 @@
 ghost use Rattle.std.specs.Prelude.{IfErr, IfOk};
-ghost use Rattle.rs_prepare.specs.Preparing.{AreOpened, Opened, Prepares, end_words, openings};
+ghost use Rattle.rs_prepare.specs.Preparing.{Opened, Prepares, end_words, openings};
 
 use crate::fault::PrepareFault;
 use crate::open_fault::End;
@@ -40,7 +40,7 @@ pub fn prepare<H: Opens, F: Files>(
     opens: &mut H,
     files: &mut F,
 ) -> Result<Prepared<H::Questions, H::Answers, H::Scores>, PrepareFault>
-    ensures { Prepares (openings H.questions_to H.answers_from H.scores_in H.refuses) names.items (end_words ends.entry) result (F.state files.old) (F.state files.new) }
+    ensures { Prepares (openings H.questions_to H.answers_from H.scores_in H.refuses) names.items (end_words ends.entry) result opens.old opens.new (F.state files.old) (F.state files.new) }
 {
     let scores = match opens.open_scores(ends.scores) {
         Ok(scores) => scores,
@@ -78,7 +78,7 @@ fn open_pair<H: Opens>(
     ends: EndNames<'_>,
     opens: &mut H,
 ) -> Result<(H::Questions, H::Answers), PrepareFault>
-    ensures { Opened (openings H.questions_to H.answers_from H.scores_in H.refuses) (end_words ends.entry) result }
+    ensures { Opened (openings H.questions_to H.answers_from H.scores_in H.refuses) (end_words ends.entry) result opens.old opens.new }
 {
     let questions = match opens.open_questions(ends.questions) {
         Ok(questions) => questions,

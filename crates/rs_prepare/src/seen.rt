@@ -1,3 +1,5 @@
+ghost use Rattle.rs_prepare.specs.Seeing.{Refuses, RefusesError, RefusesOne};
+
 use crate::node::Node;
 use crate::open_fault::{OpenFault, Stream};
 
@@ -11,7 +13,9 @@ pub struct Seen {
 }
 
 /// Refuses a file that is this one.
-fn unless_one(node: Option<Node>, other: Option<Node>, stream: Stream) -> Result<(), OpenFault> {
+fn unless_one(node: Option<Node>, other: Option<Node>, stream: Stream) -> Result<(), OpenFault>
+    ensures { RefusesOne node other stream result }
+{
     let (Some(node), Some(other)) = (node, other) else {
         return Ok(());
     };
@@ -27,9 +31,11 @@ impl Seen {
     ///
     /// # Errors
     ///
-    /// - `OneFile`, `Output`, `Scores`, `Questions`: where it is that one.
+    /// - `OneFile`, `Output`, `Scores`, `Questions`: exactly where it is that one, and none of those before it.
     /// - `Error`, `Missing`, `InUse`, `Failed`, `Memory`: never.
-    pub fn refuse(&self, node: Option<Node>) -> Result<(), OpenFault> {
+    pub(crate) fn refuse(&self, node: Option<Node>) -> Result<(), OpenFault>
+        ensures { Refuses self.now node result }
+    {
         unless_one(node, self.output, Stream::Output)?;
         unless_one(node, self.scores, Stream::Scores)?;
         unless_one(node, self.questions, Stream::Questions)
@@ -39,9 +45,11 @@ impl Seen {
     ///
     /// # Errors
     ///
-    /// - `OneFile`, `Error`: where it is that one.
+    /// - `OneFile`, `Error`: exactly where it is that one.
     /// - `Output`, `Scores`, `Questions`, `Missing`, `InUse`, `Failed`, `Memory`: never.
-    pub fn refuse_error(&self, node: Option<Node>) -> Result<(), OpenFault> {
+    pub(crate) fn refuse_error(&self, node: Option<Node>) -> Result<(), OpenFault>
+        ensures { RefusesError self.now node result }
+    {
         unless_one(node, self.error, Stream::Error)
     }
 }

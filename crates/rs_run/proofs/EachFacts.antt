@@ -1,7 +1,8 @@
 -- All words have a run, whatever the files hold and the scorer answers.
 use Rattle.std.proofs.Common.{ℕ, ◌≡◌, ◌∷◌, List, [], refl, inl, inr, ◌⊎◌}
 use Rattle.std.specs.Prelude.{None, Option, Some, Result, Ok, Err, length, ◌≤◌}
-use Rattle.rs_outside.specs.Files.{FilesTold, file_named}
+use Rattle.rs_outside.specs.Files.{Contents, Finds, all_known, file_named, finds_in}
+use Rattle.rs_outside.proofs.ContentsFacts.{finds-some}
 use Rattle.rs_gen.specs.Files.{generated_folder, script_name}
 use Rattle.rs_table.specs.Column.{Column}
 use Rattle.rs_lex.specs.Spelling.{RefusesBytes, Spells, most_tokens}
@@ -18,7 +19,7 @@ use Rattle.rs_catalog.specs.declared.room.What.TheVariants as what
 use Rattle.rs_bind.specs.Indexes.{index_def_of}
 use Rattle.rs_bind.specs.Inserts.{insert_of}
 use Rattle.rs_bind.specs.Names.{columns_of}
-use Rattle.rs_events.specs.Events.{Event, Fetch, Finds, finds_in, found_in}
+use Rattle.rs_events.specs.Events.{Event, Fetch}
 use Rattle.rs_events.specs.Run as events
 use Rattle.rs_events.specs.Run.{behind, fails, fetch_then, with_fault}
 use Rattle.rs_events.specs.Sequence as events_in
@@ -57,12 +58,8 @@ use Rattle.rs_run.specs.declared.fault.ScriptWord.TheVariants.{Ta, View}
 abbrev pub HasFiles : Finds → Type 0
 HasFiles finds = (name : List ℕ) → (there : Option (List ℕ)) × finds name there
 
-pub finds_in-has : (told : Option FilesTold) → HasFiles (finds_in told)
-finds_in-has None = λ name. (None, tt)
-finds_in-has (Some told) = λ name. (file_named name told.folder, refl)
-
-pub found_in-has : (there : List ℕ → Option (List ℕ)) → HasFiles (found_in there)
-found_in-has there = λ name. (there name, refl)
+pub finds_in-has : (contents : Contents) → HasFiles (finds_in contents)
+finds_in-has contents = finds-some contents
 
 module _ (finds : Finds) (has : HasFiles finds) (answer : Answering) (evaluating : Evaluating) where
   -- each statement does something
@@ -207,7 +204,7 @@ module _ (finds : Finds) (has : HasFiles finds) (answer : Answering) where
 pub each_generated : (finds : Finds) (answer : Answering) (number rows : ℕ) → (run : Run) × IsRunOf finds answer (RunGenerated number rows) run
 each_generated finds answer number rows =
     let there : List ℕ → Option (List ℕ) = λ name. file_named name (generated_folder number rows) in
-    let whole = each_script (finds_generated number rows) (found_in-has there) answer (Planned (ByScores number)) script_name (there script_name) refl in
+    let whole = each_script (finds_generated number rows) (finds_in-has (all_known there)) answer (Planned (ByScores number)) script_name (there script_name) refl in
     (unfetched whole.0, (whole.0, whole.2, refl))
 
 -- words: of a form whose faults are those of statements

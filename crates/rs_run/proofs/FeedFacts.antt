@@ -5,7 +5,8 @@ use Rattle.rs_outside.specs.declared.files.FetchFault.TheVariants as fetch
 use Rattle.rs_expr.specs.Scoring.{Answering}
 use Rattle.rs_expr.specs.declared.scorer.Call.{Call}
 use Rattle.rs_events.specs.Environment.{Environment}
-use Rattle.rs_events.specs.Events.{Event, Finds, Score, calls}
+use Rattle.rs_events.specs.Events.{Event, Score, calls}
+use Rattle.rs_outside.specs.Files.{Finds}
 use Rattle.rs_events.specs.HaltFaults.{Answers, IsFaultOf}
 use Rattle.rs_events.specs.Halts.{CallFailed, Ended, FetchFailed, Halt, HaltsAt, NoMemory, PutFailed}
 use Rattle.rs_events.specs.Run.{Run, with_fault}

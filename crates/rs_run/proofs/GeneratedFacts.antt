@@ -1,9 +1,8 @@
 -- A run over files of its own, beside the files outside.
 use Rattle.std.proofs.Common.{ℕ, ◌≡◌, ◌∙◌, ◌++◌, List, [], ◌∷◌, true, refl, sym, ap, subst}
 use Rattle.std.specs.Prelude.{Result, Err, option_map}
-use Rattle.rs_value.specs.Outside.{Outside}
-use Rattle.rs_value.proofs.OutsideFacts.{Keeps-refl}
-use Rattle.rs_outside.specs.Files.{FilesTold}
+use Rattle.rs_outside.specs.Files.{FilesState, Finds, finds_in}
+use Rattle.rs_outside.proofs.ContentsFacts.{KeepsFiles-refl}
 use Rattle.rs_outside.specs.MemFiles.{files_state}
 use Rattle.rs_expr.specs.Scoring.{Answering, Made}
 use Rattle.rs_gen.specs.Files.{generated, script_name}
@@ -14,12 +13,12 @@ use Rattle.rs_statement.specs.declared.fault.Fault.TheVariants.{Memory}
 use Rattle.rs_run.specs.Generated.{finds_generated, unfetched, without_fetches}
 use Rattle.rs_events.specs.Halts.{CallFailed, Done, Ended, FetchFailed, Halt, HaltsAt, NoMemory, PutFailed, fetched_more, halt_events}
 use Rattle.rs_statement.specs.Parts.Steps.{Ran, Runs}
-use Rattle.rs_events.specs.Events.{Event, Fetch, Finds, Put, Score, calls, fetches, finds_in, puts}
+use Rattle.rs_events.specs.Events.{Event, Fetch, Put, Score, calls, fetches, puts}
 use Rattle.rs_statement.specs.Steps.{Run}
 use Rattle.rs_run.specs.Running.{IsRunOf, IsScriptRun}
 use Rattle.rs_run.specs.Words.{RunGenerated, RunScript}
 use Rattle.rs_events.specs.Environment.{Environment}
-use Rattle.rs_events.proofs.RanFacts.{Ran-first, names-none}
+use Rattle.rs_events.proofs.RanFacts.{Ran-first, told-none}
 use Rattle.rs_run.proofs.EachFacts.{each_generated}
 
 -- events without their fetches: nothing is fetched, and the calls and puts are those that were there
@@ -48,33 +47,33 @@ without-append (Score call ∷ rest) b = ap (λ more. Score call ∷ more) (with
 without-append (Put bytes ∷ rest) b = ap (λ more. Put bytes ∷ more) (without-append rest b)
 
 -- with other files, which stay as they are
-abbrev beside : Outside FilesTold → Environment → Environment
+abbrev beside : FilesState → Environment → Environment
 beside outside environment = record environment { files = outside }
 
-module _ (outside : Outside FilesTold) (old new : Environment) where
+module _ (outside : FilesState) (old new : Environment) where
   Done-beside : (events : List Event) → Done events old new → Done (without_fetches events) (beside outside old) (beside outside new)
   Done-beside events done = record {
-    fetched = names-none outside.told ∙ ap (λ names. option_map (fetched_more names) outside.told) (sym (fetches-without events));
+    fetched = told-none outside.outside.told ∙ ap (λ names. option_map (fetched_more names) outside.outside.told) (sym (fetches-without events));
     called = subst (λ all. Made all old.scorer new.scorer) (sym (calls-without events)) done.called;
     put = done.put ∙ ap (λ all. option_map (λ pieces. pieces ++ all) old.out.told) (sym (puts-without events));
   }
 
   -- no fetch of steady files fails
-  halts-beside : old.files.steady ≡ true → (halt : Halt) (rest : List Event) → HaltsAt halt rest old new → HaltsAt halt (without_fetches rest) (beside outside old) (beside outside new)
+  halts-beside : old.files.outside.steady ≡ true → (halt : Halt) (rest : List Event) → HaltsAt halt rest old new → HaltsAt halt (without_fetches rest) (beside outside old) (beside outside new)
   halts-beside steady Ended rest halts = ap without_fetches halts
   halts-beside steady NoMemory rest halts = tt
   halts-beside steady (PutFailed part) rest halts = (halts.0, without_fetches halts.1, ap without_fetches halts.2, halts.3, halts.4)
   halts-beside steady (FetchFailed name) rest halts = absurd (let unsteady = sym steady ∙ halts.2.unsteady in cc)
   halts-beside steady (CallFailed call) rest halts = (without_fetches halts.0, ap without_fetches halts.1, halts.2)
 
-  events-beside : old.files.steady ≡ true → (halt : Halt) (rest : List Event) → HaltsAt halt rest old new → without_fetches (halt_events halt) ≡ halt_events halt
+  events-beside : old.files.outside.steady ≡ true → (halt : Halt) (rest : List Event) → HaltsAt halt rest old new → without_fetches (halt_events halt) ≡ halt_events halt
   events-beside steady Ended rest halts = refl
   events-beside steady NoMemory rest halts = refl
   events-beside steady (PutFailed part) rest halts = refl
   events-beside steady (FetchFailed name) rest halts = absurd (let unsteady = sym steady ∙ halts.2.unsteady in cc)
   events-beside steady (CallFailed call) rest halts = refl
 
-  Ran-beside : old.files.steady ≡ true → (run : Run) (result : Result (Unit {0}) Fault) → Ran run result old new → Ran (unfetched run) result (beside outside old) (beside outside new)
+  Ran-beside : old.files.outside.steady ≡ true → (run : Run) (result : Result (Unit {0}) Fault) → Ran run result old new → Ran (unfetched run) result (beside outside old) (beside outside new)
   Ran-beside steady run result ran = record {
     halt = ran.halt;
     did = record {
@@ -90,23 +89,23 @@ module _ (outside : Outside FilesTold) (old new : Environment) where
     fault = ran.fault;
     is_fault = ran.is_fault;
     answers = ran.answers;
-    keeps = record { files = Keeps-refl outside; scorer = ran.keeps.scorer; out = ran.keeps.out; err = ran.keeps.err; references = ran.keeps.references };
+    keeps = record { files = KeepsFiles-refl outside; scorer = ran.keeps.scorer; out = ran.keeps.out; err = ran.keeps.err; references = ran.keeps.references };
   }
 
   -- the script of this name, which was run over the generated files
   pub Runs-generated : (answer : Answering) (number rows : ℕ) (name : List ℕ) (result : Result (Unit {0}) Fault) → name ≡ script_name → old.files ≡ files_state (generated number rows)
-      → Runs (IsRunOf (finds_in old.files.told) answer (RunScript name (Planned (ByScores number)))) result old new
-      → Runs (IsRunOf (finds_in outside.told) answer (RunGenerated number rows)) result
+      → Runs (IsRunOf (finds_in old.files.contents) answer (RunScript name (Planned (ByScores number)))) result old new
+      → Runs (IsRunOf (finds_in outside.contents) answer (RunGenerated number rows)) result
       (beside outside old) (beside outside new)
   Runs-generated answer number rows name result named same ran = record {
     run = unfetched ran.run;
     is = (
       ran.run,
       subst (λ (name : List ℕ). IsScriptRun (finds_generated number rows) answer name (Planned (ByScores number)) ran.run) named
-          (subst (λ (files : Outside FilesTold). IsScriptRun (finds_in files.told) answer name (Planned (ByScores number)) ran.run) same ran.is),
+          (subst (λ (files : FilesState). IsScriptRun (finds_in files.contents) answer name (Planned (ByScores number)) ran.run) same ran.is),
       refl,
     );
-    ran = Ran-beside (ap (λ (files : Outside FilesTold). files.steady) same) ran.run result ran.ran;
+    ran = Ran-beside (ap (λ (files : FilesState). files.outside.steady) same) ran.run result ran.ran;
   }
 
 -- there was no memory for the script or its files: nothing was done

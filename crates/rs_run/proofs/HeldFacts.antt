@@ -18,7 +18,7 @@ use Rattle.rs_catalog.specs.Growing.{grown, with_rows_in}
 use Rattle.rs_catalog.proofs.JoinedFacts.{joined-index, joined-predicate, joined-table, only_index, only_predicate, only_table}
 use Rattle.rs_query.specs.Growth.{CatalogueGrows}
 use Rattle.rs_query.proofs.GrowthFacts.{grows-joined, grows-same}
-use Rattle.rs_events.specs.Events.{Finds}
+use Rattle.rs_outside.specs.Files.{Finds}
 use Rattle.rs_statement.specs.declared.evaluating.Evaluating.TheVariants.{Plainly}
 use Rattle.rs_statement.specs.Statements.{Does}
 use Rattle.rs_statement.specs.Steps as statement

@@ -29,7 +29,8 @@ use Rattle.rs_exec.specs.Cursors.{SameAsks}
 use Rattle.rs_exec.proofs.CoversFacts.{covers-larger}
 use Rattle.rs_syntax.specs.Syntax.{Ask, Close, Command, CreatePredicate, CreateRankIndex, CreateTable, Declare, Explain, ExplainAnalyze, Fetch, Insert}
 use Rattle.rs_syntax.specs.Written.{AreWritten, IsWritten}
-use Rattle.rs_events.specs.Events.{Event, Finds}
+use Rattle.rs_events.specs.Events.{Event}
+use Rattle.rs_outside.specs.Files.{Finds}
 use Rattle.rs_events.specs.Sequence.{still, then_step}
 use Rattle.rs_statement.specs.Planned.{asks_from, next_asks, plan_for}
 use Rattle.rs_statement.specs.Sampled.{sample_step}

@@ -5,6 +5,7 @@ pub mod WordFacts
 pub mod EachFacts
 pub mod RunFacts
 pub mod ScanFacts
+pub mod ScanHaltFacts
 pub mod ScanSteps
 pub mod GeneratedFacts
 pub mod RowFacts
@@ -18,4 +19,12 @@ pub mod LaterFacts
 pub mod HeldFacts
 pub mod GrowthSteps
 pub mod ViewSteps
+pub mod NarrowFacts
+pub mod ViewLeft
+pub mod SizeFacts
+pub mod HoldSteps
+pub mod FetchSteps
+pub mod LaterBinding
+pub mod DeclaredFacts
+pub mod SelectSteps
 pub mod WorkedViews

@@ -21,7 +21,8 @@ use Rattle.rs_run.specs.Words.{Certify, Check, Feed, Form, RunGenerated, RunScri
 use Rattle.rs_run.specs.Top.{top_lines}
 use Rattle.rs_run.specs.Plain.{HasTokens, HasStatements, ScriptRuns, TextRuns, as_it_is, unlexed, unparsed, runs, unread, read, source_of}
 use Rattle.rs_expr.specs.Scoring.{Answering}
-use Rattle.rs_events.specs.Events.{Fetch, Finds}
+use Rattle.rs_events.specs.Events.{Fetch}
+use Rattle.rs_outside.specs.Files.{Finds}
 use Rattle.rs_statement.specs.Steps.{Run}
 use Rattle.rs_statement.specs.Steps as statement
 use Rattle.rs_events.specs.Run as events

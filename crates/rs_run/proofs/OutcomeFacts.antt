@@ -3,7 +3,8 @@ use Rattle.std.proofs.Common.{◌≡◌, ◌∙◌, ◌++◌, List, [], ◌∷�
 use Rattle.std.specs.Prelude.{Option, Ok, Err, ◌⊎◌}
 use Rattle.rs_value.specs.Outside.{Faulted, Keeps, Outside}
 use Rattle.rs_events.specs.Environment.{Environment, KeepsEnvironment, NoneFailed}
-use Rattle.rs_events.specs.Events.{Event, finds_in}
+use Rattle.rs_events.specs.Events.{Event}
+use Rattle.rs_outside.specs.Files.{finds_in}
 use Rattle.rs_events.specs.HaltFaults.{Answers, IsFaultOf}
 use Rattle.rs_events.specs.Halts.{CallFailed, Did, Done, Ended, FetchFailed, Halt, HaltsAt, NoMemory, PutFailed, halt_events}
 use Rattle.rs_events.specs.Run.{fails}
@@ -174,10 +175,10 @@ module _ (run : WordsRun) (s : Status) (old new : Environment) (o : Reported run
   }
 
 -- what follows of the outcome of a run of this form
-module _ (form : Option Form) (run : WordsRun) (s : Status) (old new : Environment) (is_run : OfForm (finds_in old.files.told) old.scorer.answer form run)
+module _ (form : Option Form) (run : WordsRun) (s : Status) (old new : Environment) (is_run : OfForm (finds_in old.files.contents) old.scorer.answer form run)
     (o : Reported run s old new) where
   own : OwnFault form run.fault
-  own = own_fault (finds_in old.files.told) old.scorer.answer form run is_run
+  own = own_fault (finds_in old.files.contents) old.scorer.answer form run is_run
 
   -- it ends with Usage only where there is no form
   usage-outcome : s ≡ status.Usage → form ≡ None
@@ -194,7 +195,7 @@ module _ (form : Option Form) (run : WordsRun) (s : Status) (old new : Environme
   outcome-usage : form ≡ None → (s ≡ status.Usage) ⊎ (s ≡ status.Memory)
   outcome-usage none = of_halt o.halt o.is_fault o.did.halts where
     run_is : run ≡ fails Usage
-    run_is = subst (λ form. OfForm (finds_in old.files.told) old.scorer.answer form run) none is_run
+    run_is = subst (λ form. OfForm (finds_in old.files.contents) old.scorer.answer form run) none is_run
 
     no_rest : (done rest : List Event) → [] ≡ done ++ rest → rest ≡ []
     no_rest [] rest e = sym e
@@ -244,7 +245,7 @@ pub record Tells (form : Option Form) (s : Status) (old new : Environment) : Typ
   pub probe : s ≡ status.Probe → Faulted old.scorer.outside new.scorer.outside
   pub keeps : KeepsEnvironment old new
 
-tells : (form : Option Form) (run : WordsRun) (s : Status) (old new : Environment) → OfForm (finds_in old.files.told) old.scorer.answer form run
+tells : (form : Option Form) (run : WordsRun) (s : Status) (old new : Environment) → OfForm (finds_in old.files.contents) old.scorer.answer form run
     → Reported run s old new → KeepsEnvironment old new → Tells form s old new
 tells form run s old new is o keeps = record {
   run = (run, is, outcome-of run s old new o);
@@ -256,7 +257,7 @@ tells form run s old new is o keeps = record {
 }
 
 -- of a call that answers without a fault, and of one that answers a fault that is reported
-pub tells-ok : (form : Option Form) (old new : Environment) → new.err ≡ old.err → Runs run_faults (OfForm (finds_in old.files.told) old.scorer.answer form) (Ok tt) old new
+pub tells-ok : (form : Option Form) (old new : Environment) → new.err ≡ old.err → Runs run_faults (OfForm (finds_in old.files.contents) old.scorer.answer form) (Ok tt) old new
     → Tells form status.Done old new
 tells-ok form old new same ran =
     tells form ran.run status.Done old new ran.is
@@ -270,7 +271,7 @@ tells-ok form old new same ran =
     ran.ran.keeps
 
 pub tells-fault : (form : Option Form) (fault : RunFault) (s : Status) (old new : Environment) (err : Outside (List (List ℕ))) → Reports (Some fault) s old.err err → Keeps old.err err
-    → Runs run_faults (OfForm (finds_in old.files.told) old.scorer.answer form) (Err fault) old new → Tells form s old (record new { err = err })
+    → Runs run_faults (OfForm (finds_in old.files.contents) old.scorer.answer form) (Err fault) old new → Tells form s old (record new { err = err })
 tells-fault form fault s old new err reports keeps ran =
     tells form ran.run s old (record new { err = err }) ran.is
     (record {

@@ -31,7 +31,7 @@ use Rattle.rs_statement.specs.Content.{content_of, or_table_fault, table_limit}
 use Rattle.rs_run.specs.Top.{best_rows, named_table, number_at, ranked_lines, scored_rows, top_lines, top_table}
 use Rattle.rs_run.specs.Plain.{ScriptRuns, TextRuns, as_it_is, unlexed, unparsed, runs, unread, read, or_text_fault, script_limit, source_of, without_mark}
 use Rattle.rs_expr.specs.Scoring.{Answering}
-use Rattle.rs_events.specs.Events.{Finds}
+use Rattle.rs_outside.specs.Files.{Finds}
 use Rattle.rs_statement.specs.Steps.{Run}
 use Rattle.rs_events.specs.Run.{fetch_then, with_fault}
 use Rattle.rs_run.specs.Generated.{finds_generated}

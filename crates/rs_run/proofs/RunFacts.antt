@@ -1,8 +1,7 @@
 -- The runs of words, put together from what the parts did.
 use Rattle.std.proofs.Common.{ℕ, ◌≡◌, ◌∙◌, List, [], ◌∷◌, map, refl, sym, ap, subst, inl, inr}
 use Rattle.std.specs.Prelude.{None, Some, Result, Ok, Err, ◌⊎◌}
-use Rattle.rs_value.specs.Outside.{Outside}
-use Rattle.rs_outside.specs.Files.{FilesTold}
+use Rattle.rs_outside.specs.Files.{FilesState, Finds, finds_in}
 use Rattle.rs_table.specs.Relation.{Relation}
 use Rattle.rs_value.specs.Results.{◌>>=◌}
 use Rattle.rs_rank.specs.declared.answer.Answer.{Answer}
@@ -12,7 +11,7 @@ use Rattle.rs_statement.specs.declared.fault.Fault.TheVariants.{Memory}
 use Rattle.rs_run.specs.Words.{Form, Top, TopWords, form_of}
 use Rattle.rs_statement.specs.Lines.{rank_lines}
 use Rattle.rs_run.specs.Top.{best_rows, ranked_lines, top_lines}
-use Rattle.rs_events.specs.Events.{Event, Fetch, Finds, Put, finds_in}
+use Rattle.rs_events.specs.Events.{Event, Fetch, Put}
 use Rattle.rs_events.specs.Run.{fails, fetch_then, lines_run, with_fault}
 use Rattle.rs_events.specs.HaltFaults.{TellAs}
 use Rattle.rs_events.specs.Running as running
@@ -24,7 +23,7 @@ use Rattle.rs_run.specs.declared.fault.RunFault.TheVariants.{Statement, Usage}
 use Rattle.rs_run.specs.Faults.{WordsRun, run_faults}
 use Rattle.rs_statement.specs.Parts.Steps.{FetchesFile, Ran, Runs}
 use Rattle.rs_run.specs.Parts.Read.{IsTopTable}
-use Rattle.rs_events.proofs.FetchFacts.{Ran-unfetched, fetched-ok}
+use Rattle.rs_events.proofs.FetchFacts.{Ran-unfetched, fetched-ok, found-before}
 use Rattle.rs_events.proofs.ToldFacts.{Ran-told_err, Ran-told_ok}
 use Rattle.rs_events.proofs.RanFacts.{HasDone-none, Ran-all, Ran-behind, Ran-no_memory}
 
@@ -39,13 +38,13 @@ events-fetch_then name (Ok lines) = refl
 events-fetch_then name (Err fault) = refl
 
 -- the run of `top` over what a fetch found
-module _ (answer : Answering) (top : TopWords) (environment : Environment) (files : Outside FilesTold) where
+module _ (answer : Answering) (top : TopWords) (environment : Environment) (files : FilesState) where
   -- no table was fetched
   pub RanTop-no_table : (fault : Fault) → FetchesFile {A = Relation} top.file (Err fault) (IsTopTable top.file top.column) environment.files files
-      → Runs (IsRunOf (finds_in environment.files.told) answer (Top top)) (Err fault) environment (record environment { files = files })
+      → Runs (IsRunOf (finds_in environment.files.contents) answer (Top top)) (Err fault) environment (record environment { files = files })
   RanTop-no_table fault f = record {
     run = fetch_then top.file (top_lines top f.there);
-    is = (f.there, f.is_told, refl);
+    is = (f.there, found-before top.file _ _ environment.files files f, refl);
     ran = Ran-unfetched environment files top.file fault (IsTopTable top.file top.column) (fetch_then top.file (top_lines top f.there)) (rest_of (top_lines top f.there)) f
         (events-fetch_then top.file (top_lines top f.there)) (λ e. ap (λ r. fetch_then top.file (r >>= ranked_lines top)) (sym e));
   }
@@ -53,8 +52,8 @@ module _ (answer : Answering) (top : TopWords) (environment : Environment) (file
   -- a table was fetched, and no memory or no score ended the run
   pub RanTop-unranked : (table : Relation) (fault : Fault) → FetchesFile top.file (Ok table) (IsTopTable top.file top.column) environment.files files
       → (fault ≡ Memory) ⊎ (best_rows top.column top.max top.count table ≡ Err fault)
-      → Runs (IsRunOf (finds_in environment.files.told) answer (Top top)) (Err fault) environment (record environment { files = files })
-  RanTop-unranked table fault f tells = record { run = fetch_then top.file (top_lines top f.there); is = (f.there, f.is_told, refl); ran = go tells } where
+      → Runs (IsRunOf (finds_in environment.files.contents) answer (Top top)) (Err fault) environment (record environment { files = files })
+  RanTop-unranked table fault f tells = record { run = fetch_then top.file (top_lines top f.there); is = (f.there, found-before top.file _ _ environment.files files f, refl); ran = go tells } where
     go : (fault ≡ Memory) ⊎ (best_rows top.column top.max top.count table ≡ Err fault) → Ran (fetch_then top.file (top_lines top f.there)) (Err fault) environment (record environment { files = files })
     go (inl memory) = subst (λ fault. Ran (fetch_then top.file (top_lines top f.there)) (Err fault) environment (record environment { files = files })) (sym memory)
         (Ran-no_memory (fetch_then top.file (top_lines top f.there)) (Fetch top.file ∷ []) (rest_of (top_lines top f.there)) environment (record environment { files = files })
@@ -68,11 +67,11 @@ module _ (answer : Answering) (top : TopWords) (environment : Environment) (file
   -- its rows were ranked, and their lines were put
   pub RanTop-ranked : (table : Relation) (rows : List Answer) (result : Result (Unit {0}) Fault) (new : Environment) → FetchesFile top.file (Ok table) (IsTopTable top.file top.column) environment.files files
       → best_rows top.column top.max top.count table ≡ Ok rows → Ran (lines_run (rank_lines 1 rows)) result (record environment { files = files }) new
-      → Runs (IsRunOf (finds_in environment.files.told) answer (Top top)) result environment new
+      → Runs (IsRunOf (finds_in environment.files.contents) answer (Top top)) result environment new
   RanTop-ranked table rows result new f best puts =
       let read = fetched-ok environment files top.file table (IsTopTable top.file top.column) f in record {
         run = fetch_then top.file (top_lines top f.there);
-        is = (f.there, f.is_told, refl);
+        is = (f.there, found-before top.file _ _ environment.files files f, refl);
         ran = subst (λ r. Ran (fetch_then top.file r) result environment new) (sym (ap (λ r. r >>= (λ rows. Ok (rank_lines 1 rows))) best) ∙ ap (λ r. r >>= ranked_lines top) read.given)
             (Ran-behind (Fetch top.file ∷ []) (lines_run (rank_lines 1 rows)) result environment (record environment { files = files }) new read.has puts);
       }

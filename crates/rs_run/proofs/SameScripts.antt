@@ -8,7 +8,8 @@ use Rattle.rs_syntax.proofs.WrittenFacts.{AreWritten-parsed}
 use Rattle.rs_statement.specs.declared.evaluating.Evaluating.TheVariants.{Planned, Plainly}
 use Rattle.rs_statement.specs.declared.sampling.Sampling.{Sampling}
 use Rattle.rs_run.specs.Plain.{HasStatements, TextRuns, as_it_is, read, runs, source_of, unlexed, unparsed, unread}
-use Rattle.rs_events.specs.Events.{Finds, puts}
+use Rattle.rs_events.specs.Events.{puts}
+use Rattle.rs_outside.specs.Files.{Finds}
 use Rattle.rs_statement.specs.Steps.{Run}
 use Rattle.rs_run.specs.Running.{HasNoExplain, IsRunOf}
 use Rattle.rs_statement.specs.Statements.{IsNoExplain}

@@ -122,7 +122,7 @@ module _ (test : BlockTestState) (limit : Option ℕ) (i : ScanInput) where
         ap (λ n. take n (rank_lines 1 rows)) next ∙ first-lines 1 given rows answer (row-at given row within e)
         ∙ ap (λ n. take given (rank_lines 1 rows) ++ line_of n answer.score answer.values ∷ []) rank-is
 
-    split : rank_lines 1 rows ≡ take given (rank_lines 1 rows) ++ (line ∷ [] ++ drop (suc given) (rank_lines 1 rows))
+    pub split : rank_lines 1 rows ≡ take given (rank_lines 1 rows) ++ (line ∷ [] ++ drop (suc given) (rank_lines 1 rows))
     split =
         lines-split 1 given rows answer (row-at given row within e)
         ∙ ap (λ n. take given (rank_lines 1 rows) ++ (line_of n answer.score answer.values ∷ drop (suc given) (rank_lines 1 rows))) rank-is

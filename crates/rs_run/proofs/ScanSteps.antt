@@ -17,7 +17,8 @@ use Rattle.rs_query.specs.declared.query.Query.TheVariants.{One}
 use Rattle.rs_ta.specs.Depths.{ScanInput}
 use Rattle.rs_ta.specs.Eligible.{block_input, eligible_indexes}
 use Rattle.rs_events.specs.Environment.{Environment}
-use Rattle.rs_events.specs.Events.{Event, Finds, fetches, finds_in}
+use Rattle.rs_events.specs.Events.{Event}
+use Rattle.rs_outside.specs.Files.{Finds, finds_in}
 use Rattle.rs_events.specs.Run.{Run, lines_run, with_fault}
 use Rattle.rs_events.specs.Running.{HasDone, Ran, Stepped}
 use Rattle.rs_events.specs.Sequence.{Step, run_of, still}
@@ -30,7 +31,8 @@ use Rattle.rs_statement.specs.Parts.Session.{IsOfNoCursor}
 use Rattle.rs_statement.specs.Statements.{Does}
 use Rattle.rs_statement.specs.Steps as statement
 use Rattle.rs_statement.specs.Steps.{statement_faults}
-use Rattle.rs_statement.proofs.StatementFacts.{Does-finds, finds-after}
+use Rattle.rs_outside.proofs.ContentsFacts.{finds-before}
+use Rattle.rs_statement.proofs.StatementFacts.{Does-finds}
 use Rattle.rs_run.specs.declared.fault.RunFault.{RunFault}
 use Rattle.rs_run.specs.declared.fault.RunFault.TheVariants.{NotEligible, Statement}
 use Rattle.rs_run.specs.declared.fault.ScriptWord.TheVariants.{Ta}
@@ -102,14 +104,14 @@ run_of-counted number step = go step.outcome where
   go (Err fault) = refl
 
 pub Stepped-next : (made : List Event) (number next : ℕ) (catalogue left : CatalogDef) (command : Command) (result : Result (Unit {0}) RunFault) (old middle new : Environment) → next ≡ suc number
-    → HasDone made old middle → Stepped run_faults (DoesByScan (finds_in middle.files.told) middle.scorer.answer number catalogue command) left result middle new
-    → Stepped run_faults (DoesNext (finds_in old.files.told) old.scorer.answer (record { number = number; catalogue = catalogue }) command) (record { number = next; catalogue = left }) result middle new
+    → HasDone made old middle → Stepped run_faults (DoesByScan (finds_in middle.files.contents) middle.scorer.answer number catalogue command) left result middle new
+    → Stepped run_faults (DoesNext (finds_in old.files.contents) old.scorer.answer (record { number = number; catalogue = catalogue }) command) (record { number = next; catalogue = left }) result middle new
 Stepped-next made number next catalogue left command result old middle new is_next has stepped = record {
   step = counted_step number stepped.step;
   does = (
     stepped.step,
-    DoesByScan-finds (finds_in middle.files.told) (finds_in old.files.told) (finds-after old.files.told middle.files.told (fetches made) has.all.fetched) old.scorer.answer number catalogue command stepped.step
-        (subst (λ answer. DoesByScan (finds_in middle.files.told) answer number catalogue command stepped.step) has.keeps.scorer.answer stepped.does),
+    DoesByScan-finds (finds_in middle.files.contents) (finds_in old.files.contents) (finds-before old.files.contents middle.files.contents has.keeps.files.contents) old.scorer.answer number catalogue command stepped.step
+        (subst (λ answer. DoesByScan (finds_in middle.files.contents) answer number catalogue command stepped.step) has.keeps.scorer.answer stepped.does),
     refl,
   );
   ran = subst (λ (run : Run RunFault). Ran run_faults run result middle new) (sym (run_of-counted number stepped.step)) stepped.ran;

@@ -2,7 +2,7 @@
 use Rattle.std.proofs.Common.{ℕ, ◌≡◌, ◌∙◌, ◌≤◌, List, [], ◌∷◌, refl, sym, ap, subst, inl, inr}
 use Rattle.std.specs.Prelude.{IfErr, Option, Some, None, option_map, Result, Ok, Err, IsErr, IsErrAnd, length, ◌⊎◌}
 use Rattle.rs_value.specs.Outside.{Outside}
-use Rattle.rs_outside.specs.Files.{FilesTold}
+use Rattle.rs_outside.specs.Files.{FilesState, finds_in}
 use Rattle.rs_lex.specs.Spelling as spelling
 use Rattle.rs_lex.specs.Spelling.{Spells, most_tokens}
 use Rattle.rs_lex.specs.declared.fault.LexFault.{LexFault}
@@ -28,14 +28,14 @@ use Rattle.rs_run.specs.Faults.{run_faults}
 use Rattle.rs_run.specs.Parts.Read.{IsSource}
 use Rattle.rs_run.specs.Parts.Script.{IsRefused, IsScriptRead, ScriptRead}
 use Rattle.rs_run.specs.Plain.{HasStatements, HasTokens, ScriptRuns, TextRuns, as_it_is, read, runs, unlexed, unparsed, unread}
-use Rattle.rs_events.specs.Events.{Event, Fetch, finds_in}
+use Rattle.rs_events.specs.Events.{Event, Fetch}
 use Rattle.rs_statement.specs.Steps.{Run, statement_faults}
 use Rattle.rs_events.specs.Run.{behind, fails, with_fault}
 use Rattle.rs_events.specs.Sequence.{RunOf, RunsOn, Step}
 use Rattle.rs_events.specs.Environment.{Environment}
-use Rattle.rs_events.proofs.FetchFacts.{Ran-unfetched, fetched-ok}
+use Rattle.rs_events.proofs.FetchFacts.{Ran-unfetched, fetched-ok, found-before}
 use Rattle.rs_events.proofs.RanFacts.{HasDone-none, Ran-all, Ran-behind, Ran-first, Runs-apart}
-use Rattle.rs_statement.proofs.StatementFacts.{finds-after}
+use Rattle.rs_outside.proofs.ContentsFacts.{finds-before}
 use Rattle.rs_run.proofs.EachFacts.{script-has_run}
 
 -- the lexer refuses the text
@@ -143,10 +143,10 @@ RunOf-finds {F} {S} {C} a b more state (command ∷ rest) run is = (
 
 -- a fetch that did not go well, told as one of another type of faults
 FetchesFile-told : {F A : Type 0} (told : Fault → F) (memory : F) (Tells : F → Type 0) (name : List ℕ) → told Memory ≡ memory → ((fault : Fault) → statement_faults.IsFailedFetch name fault → Tells (told fault))
-    → (fault : Fault) (gives : Option (List ℕ) → Result A Fault → Type 0) (old new : Outside FilesTold) → FetchesFile {A = A} name (Err fault) gives old new
+    → (fault : Fault) (gives : Option (List ℕ) → Result A Fault → Type 0) (old new : FilesState) → FetchesFile {A = A} name (Err fault) gives old new
     → fetching.FetchesFile {A = A} memory Tells name (Err (told fault)) (λ there r. gives there (Err fault) × (r ≡ Err (told fault))) old new
 FetchesFile-told {F} {A} told memory Tells name memory_is tell fault gives old new f =
-    record { there = f.there; is_told = f.is_told; does = go f.does; keeps = f.keeps } where
+    record { there = f.there; is_found = f.is_found; learned = tt; does = go f.does; keeps = f.keeps } where
       none : ◌≡◌ {A = Result A Fault} (Err fault) (Err Memory) → ◌≡◌ {A = Result A F} (Err (told fault)) (Err memory)
       none e = ap Err (ap told (let same : fault ≡ Memory = cc in same) ∙ memory_is)
 
@@ -176,20 +176,20 @@ pub tells-words : TellScript Statement run_faults
 tells-words = record { memory = refl; failed_fetch = λ name fault is. ap Statement is }
 
 -- the run of a script over what a fetch found
-module _ {F : Type 0} (told : Fault → F) (faults : HaltFaults F) (tell : TellScript told faults) (name : List ℕ) (environment : Environment) (files : Outside FilesTold) where
+module _ {F : Type 0} (told : Fault → F) (faults : HaltFaults F) (tell : TellScript told faults) (name : List ℕ) (environment : Environment) (files : FilesState) where
   -- there was no script
   pub Script-unread : (statements : List Command → events.Run F → Type 0) → ((commands : List Command) → (run : events.Run F) × statements commands run)
       → (fault : Fault) → FetchesFile {A = List ℕ} name (Err fault) (IsSource name) environment.files files
-      → running.Runs faults (ScriptRuns told (finds_in environment.files.told) statements name) (Err (told fault)) environment (record environment { files = files })
+      → running.Runs faults (ScriptRuns told (finds_in environment.files.contents) statements name) (Err (told fault)) environment (record environment { files = files })
   Script-unread statements each fault f = go f.does where
     as_told : fetching.FetchesFile {A = List ℕ} faults.memory (faults.IsFailedFetch name) name (Err (told fault)) (λ there r. IsSource name there (Err fault) × (r ≡ Err (told fault))) environment.files files
     as_told = FetchesFile-told told faults.memory (faults.IsFailedFetch name) name tell.memory (tell.failed_fetch name) fault (IsSource name) environment.files files f
 
     -- the fetch failed, or there was no memory for the text
     broken : (FetchesFile {A = List ℕ} name (Err fault) (λ there r. ⊥) environment.files files)
-        → running.Runs faults (ScriptRuns told (finds_in environment.files.told) statements name) (Err (told fault)) environment (record environment { files = files })
+        → running.Runs faults (ScriptRuns told (finds_in environment.files.contents) statements name) (Err (told fault)) environment (record environment { files = files })
     broken does =
-        let some = script-has_run told statements each (finds_in environment.files.told) name f.there f.is_told in record {
+        let some = script-has_run told statements each (finds_in environment.files.contents) name f.there (found-before name _ _ environment.files files f) in record {
           run = some.0;
           is = some.2;
           ran = Ran-unfetched environment files name (told fault) (λ there r. ⊥ × (r ≡ Err (told fault))) some.0 some.1
@@ -198,32 +198,32 @@ module _ {F : Type 0} (told : Fault → F) (faults : HaltFaults F) (tell : TellS
         }
 
     go : (NotFetched {A = List ℕ} Memory (Err fault) environment.files files ⊎ FetchFails {A = List ℕ} Memory (statement_faults.IsFailedFetch name) name (Err fault) environment.files files) ⊎ Fetched Memory name (IsSource name f.there) (Err fault) environment.files files
-        → running.Runs faults (ScriptRuns told (finds_in environment.files.told) statements name) (Err (told fault)) environment (record environment { files = files })
-    go (inl none) = broken (record { there = f.there; is_told = f.is_told; does = inl none; keeps = f.keeps })
+        → running.Runs faults (ScriptRuns told (finds_in environment.files.contents) statements name) (Err (told fault)) environment (record environment { files = files })
+    go (inl none) = broken (record { there = f.there; is_found = f.is_found; learned = tt; does = inl none; keeps = f.keeps })
     go (inr fetched) = elim fetched.answers [
       | inl e ↦ record {
         run = behind (Fetch name ∷ []) (fails (told fault));
-        is = unread f.there fault f.is_told (sym e);
+        is = unread f.there fault (found-before name _ _ environment.files files f) (sym e);
         ran = Ran-unfetched environment files name (told fault) (λ there r. IsSource name there (Err fault) × (r ≡ Err (told fault))) (behind (Fetch name ∷ []) (fails (told fault))) [] as_told refl (λ e. refl);
       }
-      | inr e ↦ broken (record { there = f.there; is_told = f.is_told; does = inr (record { fetched = fetched.fetched; answers = inr e }); keeps = f.keeps })
+      | inr e ↦ broken (record { there = f.there; is_found = f.is_found; learned = tt; does = inr (record { fetched = fetched.fetched; answers = inr e }); keeps = f.keeps })
     ]
 
   -- the script was read, and its text was run
-  pub Script-read : (statements later : List Command → events.Run F → Type 0) → ((commands : List Command) (run : events.Run F) → ((name : List ℕ) (there : Option (List ℕ)) → finds_in files.told name there → finds_in environment.files.told name there) → later commands run → statements commands run)
+  pub Script-read : (statements later : List Command → events.Run F → Type 0) → ((commands : List Command) (run : events.Run F) → ((name : List ℕ) (there : Option (List ℕ)) → finds_in files.contents name there → finds_in environment.files.contents name there) → later commands run → statements commands run)
       → (script : List ℕ) (result : Result (Unit {0}) F) (new : Environment) → FetchesFile name (Ok script) (IsSource name) environment.files files
       → running.Runs faults (TextRuns told later script) result (record environment { files = files }) new
-      → running.Runs faults (ScriptRuns told (finds_in environment.files.told) statements name) result environment new
+      → running.Runs faults (ScriptRuns told (finds_in environment.files.contents) statements name) result environment new
   Script-read statements later turn script result new f text =
       let source = fetched-ok environment files name script (IsSource name) f in record {
         run = behind (Fetch name ∷ []) text.run;
-        is = read f.there script text.run f.is_told (sym source.given)
-            (TextRuns-turn told later statements (λ commands run is. turn commands run (finds-after environment.files.told files.told (name ∷ []) source.has.all.fetched) is) script text.run text.is);
+        is = read f.there script text.run (found-before name _ _ environment.files files f) (sym source.given)
+            (TextRuns-turn told later statements (λ commands run is. turn commands run (finds-before environment.files.contents files.contents f.keeps.contents) is) script text.run text.is);
         ran = Ran-behind (Fetch name ∷ []) text.run result environment (record environment { files = files }) new source.has text.ran;
       }
 
 -- a run told of a caller's own objects, which are those that it left, beside a standard error of its own
-pub Runs-of : {F : Type 0} {faults : HaltFaults F} (of : events.Run F → Type 0) (result : Result (Unit {0}) F) (old new beside : Environment) (files : Outside FilesTold) (scorer : ScorerState) (out : Outside (List (List ℕ)))
+pub Runs-of : {F : Type 0} {faults : HaltFaults F} (of : events.Run F → Type 0) (result : Result (Unit {0}) F) (old new beside : Environment) (files : FilesState) (scorer : ScorerState) (out : Outside (List (List ℕ)))
     → files ≡ new.files → scorer ≡ new.scorer → out ≡ new.out → running.Runs faults of result old new
     → running.Runs faults of result (record beside { files = old.files; scorer = old.scorer; out = old.out }) (record beside { files = files; scorer = scorer; out = out })
 Runs-of of result old new beside files scorer out same_files same_scorer same_out ran =

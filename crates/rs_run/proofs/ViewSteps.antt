@@ -17,7 +17,8 @@ use Rattle.rs_query.specs.declared.query.Query.{Query}
 use Rattle.rs_query.specs.declared.query.Query.TheVariants.{One, Set}
 use Rattle.rs_view.specs.Views.{IsKeepable}
 use Rattle.rs_events.specs.Environment.{Environment}
-use Rattle.rs_events.specs.Events.{Event, Finds, fetches, finds_in}
+use Rattle.rs_events.specs.Events.{Event}
+use Rattle.rs_outside.specs.Files.{Finds, finds_in}
 use Rattle.rs_events.specs.Run.{Run}
 use Rattle.rs_events.specs.Running.{HasDone, Ran, Stepped}
 use Rattle.rs_events.specs.Sequence.{Step, run_of, still}
@@ -31,7 +32,8 @@ use Rattle.rs_statement.specs.Inserts.{insert_step}
 use Rattle.rs_statement.specs.Statements.{Does, or_bind_fault, refused_or}
 use Rattle.rs_statement.specs.Steps as statement
 use Rattle.rs_statement.specs.Steps.{statement_faults}
-use Rattle.rs_statement.proofs.StatementFacts.{Does-finds, finds-after}
+use Rattle.rs_outside.proofs.ContentsFacts.{finds-before}
+use Rattle.rs_statement.proofs.StatementFacts.{Does-finds}
 use Rattle.rs_run.specs.declared.fault.RunFault.{RunFault}
 use Rattle.rs_run.specs.declared.fault.RunFault.TheVariants.{NotEligible, Statement}
 use Rattle.rs_run.specs.declared.fault.ScriptWord.TheVariants.{View}
@@ -93,14 +95,14 @@ run_of-numbered number step = go step.outcome where
   go (Err fault) = refl
 
 pub Stepped-next_view : (made : List Event) (number next : ℕ) (kept left : Kept) (command : Command) (result : Result (Unit {0}) RunFault) (old middle new : Environment) → next ≡ suc number
-    → HasDone made old middle → Stepped run_faults (DoesByViews (finds_in middle.files.told) middle.scorer.answer number kept command) left result middle new
-    → Stepped run_faults (DoesNextByViews (finds_in old.files.told) old.scorer.answer (record { number = number; kept = kept }) command) (record { number = next; kept = left }) result middle new
+    → HasDone made old middle → Stepped run_faults (DoesByViews (finds_in middle.files.contents) middle.scorer.answer number kept command) left result middle new
+    → Stepped run_faults (DoesNextByViews (finds_in old.files.contents) old.scorer.answer (record { number = number; kept = kept }) command) (record { number = next; kept = left }) result middle new
 Stepped-next_view made number next kept left command result old middle new is_next has stepped = record {
   step = numbered_step number stepped.step;
   does = (
     stepped.step,
-    DoesByViews-finds (finds_in middle.files.told) (finds_in old.files.told) (finds-after old.files.told middle.files.told (fetches made) has.all.fetched) old.scorer.answer number kept command stepped.step
-        (subst (λ answer. DoesByViews (finds_in middle.files.told) answer number kept command stepped.step) has.keeps.scorer.answer stepped.does),
+    DoesByViews-finds (finds_in middle.files.contents) (finds_in old.files.contents) (finds-before old.files.contents middle.files.contents has.keeps.files.contents) old.scorer.answer number kept command stepped.step
+        (subst (λ answer. DoesByViews (finds_in middle.files.contents) answer number kept command stepped.step) has.keeps.scorer.answer stepped.does),
     refl,
   );
   ran = subst (λ (run : Run RunFault). Ran run_faults run result middle new) (sym (run_of-numbered number stepped.step)) stepped.ran;

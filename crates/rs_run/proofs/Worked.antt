@@ -19,7 +19,8 @@ use Rattle.rs_statement.specs.declared.script_fault.ScriptFault.TheVariants as s
 use Rattle.rs_statement.specs.Faults.{only}
 use Rattle.rs_run.specs.Plain.{source_of, without_mark}
 use Rattle.rs_expr.specs.Scoring.{Answering}
-use Rattle.rs_events.specs.Events.{Fetch, Finds, Put, found_in}
+use Rattle.rs_events.specs.Events.{Fetch, Put}
+use Rattle.rs_outside.specs.Files.{Finds, found_in}
 use Rattle.rs_statement.specs.Steps.{Run}
 use Rattle.rs_run.specs.Running.{IsRun, IsRunOf}
 use Rattle.rs_run.specs.declared.fault.RunFault.TheVariants.{Statement, Usage}

@@ -8,7 +8,7 @@ use Rattle.rs_syntax.specs.Syntax.{Close}
 use Rattle.rs_expr.specs.Scoring.{Answering}
 use Rattle.rs_catalog.specs.Catalog.{CatalogDef}
 use Rattle.rs_ta.specs.Depths.{ScanInput}
-use Rattle.rs_events.specs.Events.{Finds}
+use Rattle.rs_outside.specs.Files.{Finds}
 use Rattle.rs_events.specs.Sequence.{still}
 use Rattle.rs_run.specs.declared.fault.RunFault.TheVariants.{NotEligible}
 use Rattle.rs_run.specs.declared.fault.ScriptWord.TheVariants.{Ta}

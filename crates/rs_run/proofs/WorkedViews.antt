@@ -9,7 +9,7 @@ use Rattle.rs_expr.specs.Scoring.{Answering}
 use Rattle.rs_catalog.specs.Catalog.{empty}
 use Rattle.rs_query.specs.declared.query.Query.{Query}
 use Rattle.rs_view.specs.Views.{ViewDef}
-use Rattle.rs_events.specs.Events.{Finds}
+use Rattle.rs_outside.specs.Files.{Finds}
 use Rattle.rs_events.specs.Sequence.{still}
 use Rattle.rs_statement.specs.declared.fault.Fault.TheVariants.{Session}
 use Rattle.rs_statement.specs.declared.fault.SessionFault.TheVariants.{NameTaken, Unknown}
@@ -17,6 +17,7 @@ use Rattle.rs_run.specs.declared.fault.RunFault.TheVariants.{NotEligible}
 use Rattle.rs_run.specs.declared.fault.ScriptWord.TheVariants.{View}
 use Rattle.rs_run.specs.declared.status.Status.TheVariants as status
 use Rattle.rs_run.specs.Faults.{run_fault_line, status_of}
+use Rattle.rs_run.specs.Reached.{AreNotClosed, most_written, without_views}
 use Rattle.rs_run.specs.Viewing.{DoesByViews, HeldView, Kept, close_outcome, room_for_view, view_named}
 use Rattle.rs_run.specs.Words.{Views, form_of}
 
@@ -61,3 +62,15 @@ module _ (query : Query) where
   one_left : (at : Name) → at.text ≡ codes "a" → close_outcome (record { catalogue = empty; views = two }) (record at { text = codes "a" }) ≡ Ok (record { catalogue = empty; views = (codes "b", view) ∷ [] })
   unfolding two
   one_left at is = refl
+
+-- of a DECLARE, a CLOSE and a query the query alone does the same under `plain`
+under_plain : (name : Name) (query : syntax.Query) → without_views (syntax.Declare name query ∷ syntax.Close name ∷ syntax.Ask query ∷ []) ≡ syntax.Ask query ∷ []
+under_plain name query = refl
+
+-- a CLOSE of another name leaves a view
+not_closed : (at : Name) → AreNotClosed (codes "a") (syntax.Close (record at { text = codes "b" }) ∷ [])
+not_closed at = (refl, tt)
+
+-- a SELECT without LIMIT makes a view of ten rows at most
+ten_rows : (query : syntax.Query) → most_written (record query { limit = None }) ≡ Ok 10
+ten_rows query = refl

@@ -1,8 +1,8 @@
 -- The word `gen`: a run over files that are made for it.
 use Rattle.std.specs.Prelude.{ℕ, List, [], ◌∷◌}
-use Rattle.rs_outside.specs.Files.{file_named}
+use Rattle.rs_outside.specs.Files.{Finds, file_named, found_in}
 use Rattle.rs_gen.specs.Files.{generated_folder}
-use Rattle.rs_events.specs.Events.{Event, Fetch, Finds, Put, Score, found_in}
+use Rattle.rs_events.specs.Events.{Event, Fetch, Put, Score}
 use Rattle.rs_statement.specs.Steps.{Run}
 
 -- what a fetch finds among the generated files

@@ -2,10 +2,9 @@
 use Rattle.std.specs.Prelude.{ℕ, ◌≡◌, ◌⊎◌, Bool, false, not, List, find, Option, None, Ok}
 use Rattle.std.specs.List.{list_any}
 use Rattle.std.specs.Str.{bytes_eq}
-use Rattle.rs_value.specs.Outside.{Faulted, Outside}
-use Rattle.rs_outside.specs.Files.{FilesTold}
+use Rattle.rs_value.specs.Outside.{Faulted}
+use Rattle.rs_outside.specs.Files.{FilesState, Finds, Remembers, finds_in}
 use Rattle.rs_syntax.specs.Syntax.{Command, CreatePredicate}
-use Rattle.rs_events.specs.Events.{Finds}
 use Rattle.rs_statement.specs.Steps.{Run}
 use Rattle.rs_run.specs.Plain.{HasStatements, ScriptRuns, as_it_is, source_of}
 
@@ -22,11 +21,12 @@ has_predicate name commands = list_any (λ command. makes_predicate name command
 abbrev pub unmade_in : List (List ℕ) → List Command → Option (List ℕ)
 unmade_in names commands = find (λ name. not (has_predicate name commands)) names
 
--- the script of this name is made of these statements
-pub record IsScript (finds : Finds) (script : List ℕ) (commands : List Command) : Type 0 where
+-- the script of this name is made of these statements, and files that remember what was found remember its text
+pub record IsScript (files : FilesState) (script : List ℕ) (commands : List Command) : Type 0 where
   pub there : Option (List ℕ)
   pub text : List ℕ
-  pub found : finds script there
+  pub is_found : finds_in files.contents script there
+  pub learned : Remembers files script there
   pub source : source_of script there ≡ Ok text
   pub made : HasStatements text commands
 
@@ -35,7 +35,7 @@ abbrev pub IsNoScript : Finds → List ℕ → Type 0
 IsNoScript finds script = (run : Run) × ScriptRuns as_it_is finds (λ commands run. ⊥) script run
 
 -- what a look for predicates of these names gives: the first one of which the statements of the script make none, or none where the script has no statements or the fetch of it failed
-abbrev pub Looks : Finds → List ℕ → List (List ℕ) → Option (List ℕ) → Outside FilesTold → Outside FilesTold → Type 0
-Looks finds script names name old new =
-    ((commands : List Command) × IsScript finds script commands × (name ≡ unmade_in names commands))
-    ⊎ ((name ≡ None) × (IsNoScript finds script ⊎ Faulted old new))
+abbrev pub Looks : List ℕ → List (List ℕ) → Option (List ℕ) → FilesState → FilesState → Type 0
+Looks script names name old new =
+    ((commands : List Command) × IsScript new script commands × (name ≡ unmade_in names commands))
+    ⊎ ((name ≡ None) × (IsNoScript (finds_in new.contents) script ⊎ Faulted old.outside new.outside))

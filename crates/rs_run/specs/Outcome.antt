@@ -3,7 +3,7 @@ use Rattle.std.specs.Prelude.{ℕ, ◌≡◌, ◌⊎◌, List, [], ◌∷◌, �
 use Rattle.rs_value.specs.Outside.{Faulted, Outside}
 use Rattle.rs_outside.specs.Sink.{IsPrefix}
 use Rattle.rs_events.specs.Environment.{Environment, NoneFailed}
-use Rattle.rs_events.specs.Events.{finds_in}
+use Rattle.rs_outside.specs.Files.{finds_in}
 use Rattle.rs_events.specs.HaltFaults.{IsFaultOf}
 use Rattle.rs_events.specs.Halts.{Did, Done, Halt}
 use Rattle.rs_run.specs.declared.fault.RunFault.{RunFault}
@@ -35,7 +35,7 @@ abbrev pub HasCause : WordsRun → Status → Environment → Environment → Ty
 HasCause run answer old new =
     ((answer ≡ status_of run.fault) ⊎ (answer ≡ statuses.Memory))
     ⊎ (((answer ≡ statuses.Write) × Faulted old.out new.out)
-    ⊎ (((answer ≡ statuses.Read) × Faulted old.files new.files) ⊎ ((answer ≡ statuses.Probe) × Faulted old.scorer.outside new.scorer.outside)))
+    ⊎ (((answer ≡ statuses.Read) × Faulted old.files.outside new.files.outside) ⊎ ((answer ≡ statuses.Probe) × Faulted old.scorer.outside new.scorer.outside)))
 
 -- the run ended as its definition says, after all its events
 pub record RunEnds (run : WordsRun) (status : Status) (old new : Environment) : Type 0 where
@@ -54,10 +54,10 @@ pub record Outcome (run : WordsRun) (status : Status) (old new : Environment) : 
   pub well : status ≡ statuses.Done → (run.fault ≡ None) × Done run.events old new
   pub complete : NoneFailed old new → RunEnds run status old new ⊎ (status ≡ statuses.Memory)
 
--- the run of this form, over what the files tell at first and what the scorer answers, had this outcome
+-- the run of this form, over what is known of the files at first and what the scorer answers, had this outcome
 abbrev pub FormRunsTo : Option Form → Status → Environment → Environment → Type 0
-FormRunsTo form status old new = (run : WordsRun) × OfForm (finds_in old.files.told) old.scorer.answer form run × Outcome run status old new
+FormRunsTo form status old new = (run : WordsRun) × OfForm (finds_in old.files.contents) old.scorer.answer form run × Outcome run status old new
 
--- the run of these words, over what the files tell at first and what the scorer answers, had this outcome
+-- the run of these words, over what is known of the files at first and what the scorer answers, had this outcome
 abbrev pub RunsTo : List (List ℕ) → Status → Environment → Environment → Type 0
-RunsTo words status old new = (run : WordsRun) × IsRun (finds_in old.files.told) old.scorer.answer words run × Outcome run status old new
+RunsTo words status old new = (run : WordsRun) × IsRun (finds_in old.files.contents) old.scorer.answer words run × Outcome run status old new

@@ -15,7 +15,8 @@ use Rattle.rs_statement.specs.declared.fault.Fault.{Fault}
 use Rattle.rs_statement.specs.declared.fault.Fault.TheVariants.{Memory, Script}
 use Rattle.rs_statement.specs.declared.script_fault.ScriptFault.TheVariants.{NotUtf8, Lex, Parse}
 use Rattle.rs_statement.specs.Content.{content_of}
-use Rattle.rs_events.specs.Events.{Fetch, Finds}
+use Rattle.rs_events.specs.Events.{Fetch}
+use Rattle.rs_outside.specs.Files.{Finds}
 use Rattle.rs_events.specs.Run.{Run, behind, fails}
 
 -- the most bytes of a script's file, a byte order mark counted

@@ -20,7 +20,7 @@ use Rattle.rs_run.specs.Plain.{HasStatements, ScriptRuns, as_it_is, source_of}
 use Rattle.rs_run.specs.Threshold.{ScansRun}
 use Rattle.rs_run.specs.Viewing.{ViewsRun}
 use Rattle.rs_expr.specs.Scoring.{Answering}
-use Rattle.rs_events.specs.Events.{Finds}
+use Rattle.rs_outside.specs.Files.{Finds}
 use Rattle.rs_statement.specs.Steps.{Run}
 use Rattle.rs_events.specs.Run as events
 use Rattle.rs_events.specs.Run.{fails, fetch_then, with_fault}

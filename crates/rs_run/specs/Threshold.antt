@@ -13,7 +13,7 @@ use Rattle.rs_query.specs.declared.query.Query.TheVariants.{One, Set}
 use Rattle.rs_ta.specs.Depths.{ScanInput, answers, depth, lookups, sights}
 use Rattle.rs_ta.specs.Eligible.{block_input, eligible_indexes}
 use Rattle.rs_ta.specs.Lists.{total}
-use Rattle.rs_events.specs.Events.{Finds}
+use Rattle.rs_outside.specs.Files.{Finds}
 use Rattle.rs_events.specs.Sequence.{RunOf, Step, lines_step, still}
 use Rattle.rs_statement.specs.declared.evaluating.Evaluating.TheVariants.{Plainly}
 use Rattle.rs_statement.specs.declared.fault.Fault.{Fault}

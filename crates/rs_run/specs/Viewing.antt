@@ -20,7 +20,7 @@ use Rattle.rs_plain.specs.Plain.{plain_faults}
 use Rattle.rs_plain.specs.declared.fault.PlainFault.{PlainFault}
 use Rattle.rs_view.specs.Fresh.{fresh_questions, making, whole_view}
 use Rattle.rs_view.specs.Views.{ViewDef}
-use Rattle.rs_events.specs.Events.{Finds}
+use Rattle.rs_outside.specs.Files.{Finds}
 use Rattle.rs_events.specs.Sequence.{RunOf, Step, inquiry_step, lines_step, still, then_step}
 use Rattle.rs_statement.specs.declared.evaluating.Evaluating.TheVariants.{Plainly}
 use Rattle.rs_statement.specs.declared.fault.Fault.{Fault}

@@ -3,7 +3,7 @@
 ghost use Rattle.std.specs.Prelude.{◌≤◌};
 ghost use Rattle.rs_cert.specs.Records.{most_wanted};
 ghost use Rattle.rs_events.specs.Environment.{Environment};
-ghost use Rattle.rs_events.specs.Events.{finds_in};
+ghost use Rattle.rs_outside.specs.Files.{finds_in};
 ghost use Rattle.rs_events.specs.Running.{Runs};
 ghost use Rattle.rs_run.specs.Faults.{run_faults};
 ghost use Rattle.rs_run.specs.Running.{IsFormRun};
@@ -27,7 +27,7 @@ pub fn cert<F: Files, O: Sink>(
 ) -> Result<(), RunFault>
     requires { count ≤ most_wanted }
     ensures { (beside : Environment) → Runs run_faults
-        (IsFormRun (finds_in (F.state files.old).told) beside.scorer.answer (Certify (record { left = left.now; right = right.now; count = count }))) result
+        (IsFormRun (finds_in (F.state files.old).contents) beside.scorer.answer (Certify (record { left = left.now; right = right.now; count = count }))) result
         (record beside { files = F.state files.old; out = O.state out.old }) (record beside { files = F.state files.new; out = O.state out.new }) }
 {
     match cert_word(alloc, left, right, count, files, out) {
@@ -43,7 +43,7 @@ pub fn check<F: Files, O: Sink>(
     files: &mut F,
     out: &mut O,
 ) -> Result<(), RunFault>
-    ensures { (beside : Environment) → Runs run_faults (IsFormRun (finds_in (F.state files.old).told) beside.scorer.answer (Check file.now)) result
+    ensures { (beside : Environment) → Runs run_faults (IsFormRun (finds_in (F.state files.old).contents) beside.scorer.answer (Check file.now)) result
         (record beside { files = F.state files.old; out = O.state out.old }) (record beside { files = F.state files.new; out = O.state out.new }) }
 {
     match check_word(alloc, file, files, out) {

@@ -1,7 +1,7 @@
 ghost use Rattle.std.specs.Prelude.{◌≡◌, ◌≢◌, ◌⊎◌, ℕ, None, Some};
 ghost use Rattle.rs_value.specs.Outside.{Faulted};
 ghost use Rattle.rs_events.specs.Environment.{Environment, KeepsEnvironment, environment};
-ghost use Rattle.rs_events.specs.Events.{finds_in};
+ghost use Rattle.rs_outside.specs.Files.{finds_in};
 ghost use Rattle.rs_events.specs.Running.{Runs};
 ghost use Rattle.rs_run.specs.Faults.{run_faults};
 ghost use Rattle.rs_run.specs.Outcome.{FormRunsTo, RunsTo};
@@ -29,8 +29,8 @@ use rs_value::Text;
 use std::alloc::Global;
 
 /// Does all that the command does: takes the words of the command line without the program's name, fetches from
-/// `files`, asks `scorer` for scores, puts rows to `out` and the line of a fault to `err`, and answers the status. Where the
-/// files don't tell what they hold, as those of the system, what is said of a run is said of one over some files.
+/// `files`, asks `scorer` for scores, puts rows to `out` and the line of a fault to `err`, and answers the status. Where
+/// nothing is known of the files, as of those of the system, what is said of a run is said of one over some files.
 ///
 /// # Errors
 ///
@@ -81,8 +81,8 @@ pub fn run<F: Files, S: Scorer, O: Sink, E: Sink>(
     // The word `gen` leaves the files that are handed in alone.
     ensures unfetched { (number rows : ℕ) → form_of words.now ≡ Some (RunGenerated number rows) → F.state files.new ≡ F.state files.old }
 
-    // What a second run with the same objects stands on: the scorer's answers stay, no count of faults falls, and what
-    // is steady stays so.
+    // What a second run with the same objects stands on: what is known of the files stays known, the scorer's answers
+    // stay, no count of faults falls, and what is steady stays so.
     ensures keeps { KeepsEnvironment
         (environment (F.state files.old) (S.state scorer.old) (O.state out.old) (E.state err.old))
         (environment (F.state files.new) (S.state scorer.new) (O.state out.new) (E.state err.new)) }
@@ -153,7 +153,7 @@ fn answer<F: Files, S: Scorer, O: Sink>(
     scorer: &mut S,
     out: &mut O,
 ) -> Result<(), RunFault>
-    ensures does { (beside : Environment) → Runs run_faults (IsRun (finds_in (F.state files.old).told) (S.state scorer.old).answer words.now) result
+    ensures does { (beside : Environment) → Runs run_faults (IsRun (finds_in (F.state files.old).contents) (S.state scorer.old).answer words.now) result
         (record beside { files = F.state files.old; scorer = S.state scorer.old; out = O.state out.old })
         (record beside { files = F.state files.new; scorer = S.state scorer.new; out = O.state out.new }) }
     ensures unfetched { (number rows : ℕ) → form_of words.now ≡ Some (RunGenerated number rows) → F.state files.new ≡ F.state files.old }
@@ -174,7 +174,7 @@ fn obey<F: Files, S: Scorer, O: Sink>(
 ) -> Result<(), RunFault>
     requires { HasCertCount (form_of_command_line command) }
     ensures does { (beside : Environment) → Runs run_faults
-        (IsFormRun (finds_in (F.state files.old).told) (S.state scorer.old).answer (form_of_command_line command.entry)) result
+        (IsFormRun (finds_in (F.state files.old).contents) (S.state scorer.old).answer (form_of_command_line command.entry)) result
         (record beside { files = F.state files.old; scorer = S.state scorer.old; out = O.state out.old })
         (record beside { files = F.state files.new; scorer = S.state scorer.new; out = O.state out.new }) }
     ensures unfetched { (number rows : ℕ) → form_of_command_line command.entry ≡ RunGenerated number rows → F.state files.new ≡ F.state files.old }

@@ -2,7 +2,7 @@
 
 ghost use Rattle.std.specs.Prelude.{◌≡◌, ◌⊎◌, IfOk};
 ghost use Rattle.rs_events.specs.Environment.{Environment};
-ghost use Rattle.rs_events.specs.Events.{finds_in};
+ghost use Rattle.rs_outside.specs.Files.{finds_in};
 ghost use Rattle.rs_events.specs.Running.{Runs};
 ghost use Rattle.rs_run.specs.FeedTold as told;
 ghost use Rattle.rs_run.specs.Faults.{run_faults};
@@ -30,7 +30,7 @@ pub fn feed<F: Files, O: Sink>(
     out: &mut O,
 ) -> Result<(), RunFault>
     ensures { (beside : Environment) → Runs run_faults
-        (IsFormRun (finds_in (F.state files.old).told) beside.scorer.answer (Feed (record { left = left.now; right = right.now; count = count }))) result
+        (IsFormRun (finds_in (F.state files.old).contents) beside.scorer.answer (Feed (record { left = left.now; right = right.now; count = count }))) result
         (record beside { files = F.state files.old; out = O.state out.old }) (record beside { files = F.state files.new; out = O.state out.new }) }
 {
     match feed_word(alloc, left, right, count, files, out) {

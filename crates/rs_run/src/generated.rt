@@ -1,7 +1,7 @@
 ghost use Rattle.std.specs.Prelude.{◌≡◌, IfOk};
 ghost use Rattle.rs_gen.specs.Files.{script_name};
 ghost use Rattle.rs_statement.specs.Parts.Steps.{Runs};
-ghost use Rattle.rs_events.specs.Events.{finds_in};
+ghost use Rattle.rs_outside.specs.Files.{finds_in};
 ghost use Rattle.rs_run.specs.Running.{IsRunOf};
 ghost use Rattle.rs_run.specs.Words.{RunGenerated};
 ghost use Rattle.rs_events.specs.Environment.{Environment};
@@ -27,7 +27,7 @@ pub fn run_generated<S: Scorer, O: Sink>(
     out: &mut O,
 ) -> Result<(), Fault>
     ensures { (beside : Environment) → Runs
-        (IsRunOf (finds_in beside.files.told) (S.state scorer.old).answer (RunGenerated number rows)) result
+        (IsRunOf (finds_in beside.files.contents) (S.state scorer.old).answer (RunGenerated number rows)) result
         (record beside { scorer = S.state scorer.old; out = O.state out.old }) (record beside { scorer = S.state scorer.new; out = O.state out.new }) }
 {
     let name = script_name(alloc)?;

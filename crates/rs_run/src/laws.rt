@@ -3,7 +3,7 @@
 
 ghost use Rattle.std.specs.Prelude.{◌≡◌, ℕ, List, Option, None, Some, Ok};
 ghost use Rattle.rs_value.specs.declared.value.Value.{Value};
-ghost use Rattle.rs_outside.specs.Files.{FilesTold};
+ghost use Rattle.rs_outside.specs.Files.{Contents, finds_in, found_in};
 ghost use Rattle.rs_rank.specs.declared.scored_row.ScoredRow.{ScoredRow};
 ghost use Rattle.rs_expr.specs.Predicates.{PredicateDef};
 ghost use Rattle.rs_expr.specs.Scoring.{Answering};
@@ -25,7 +25,7 @@ ghost use Rattle.rs_statement.specs.declared.sampling.Sampling.{Sampling};
 ghost use Rattle.rs_statement.specs.Planned.{asks_from, next_asks};
 ghost use Rattle.rs_statement.specs.Session.{ByPlan, IsCursorOf, OpenCursor, State, fetched_from, fetched_step};
 ghost use Rattle.rs_statement.specs.Steps.{Run};
-ghost use Rattle.rs_events.specs.Events.{finds_in, found_in, puts};
+ghost use Rattle.rs_events.specs.Events.{puts};
 ghost use Rattle.rs_run.specs.Faults.{WordsRun};
 ghost use Rattle.rs_run.specs.Later.{LeadsTo};
 ghost use Rattle.rs_run.specs.Running.{HasNoExplain, IsRun, IsRunOf};
@@ -34,33 +34,25 @@ ghost use Rattle.rs_run.specs.Words.{RunScript};
 use rs_enum::there_is_one_least_plan;
 use rs_exec::{plans_ask_the_same_in_larger_catalogues, plans_give_the_answer};
 
-/// Words have one run at most over the same files and the same answers of a scorer, where the files stay as they are, as
-/// those do that are told.
+/// Words have one run at most over the same files and the same answers of a scorer, where the files stay as they are.
 pub fn one_run()
-    ensures files { (there : List ℕ → Option (List ℕ)) (answer : Answering) (words : List (List ℕ)) (run other : WordsRun)
+    ensures { (there : List ℕ → Option (List ℕ)) (answer : Answering) (words : List (List ℕ)) (run other : WordsRun)
         → IsRun (found_in there) answer words run → IsRun (found_in there) answer words other → run ≡ other }
-    ensures told { (told : FilesTold) (answer : Answering) (words : List (List ℕ)) (run other : WordsRun)
-        → IsRun (finds_in (Some told)) answer words run → IsRun (finds_in (Some told)) answer words other → run ≡ other }
 {}
 
-/// All words have a run, whatever the files hold and the scorer answers: each script is lexed or refused, its tokens parse or are
+/// All words have a run, whatever is known of the files and the scorer answers: each script is lexed or refused, its tokens parse or are
 /// refused, and each statement does something.
 pub fn words_have_a_run()
-    ensures files { (there : List ℕ → Option (List ℕ)) (answer : Answering) (words : List (List ℕ)) → (run : WordsRun) × IsRun (found_in there) answer words run }
-    ensures told { (told : Option FilesTold) (answer : Answering) (words : List (List ℕ)) → (run : WordsRun) × IsRun (finds_in told) answer words run }
+    ensures { (contents : Contents) (answer : Answering) (words : List (List ℕ)) → (run : WordsRun) × IsRun (finds_in contents) answer words run }
 {}
 
 /// A script without EXPLAIN that ends without a fault under `plain` and under `run`, whatever the seed, puts the same rows in the same
 /// order under both, over the same files and the same answers of a scorer: those of its queries, and those of its cursors, among CREATE
 /// statements, INSERTs and queries as they may stand. So it does where plans are chosen by guesses.
 pub fn plain_and_run_agree()
-    ensures files { (there : List ℕ → Option (List ℕ)) (answer : Answering) (name : List ℕ) (sampling : Sampling) (run other : Run)
+    ensures { (there : List ℕ → Option (List ℕ)) (answer : Answering) (name : List ℕ) (sampling : Sampling) (run other : Run)
         → HasNoExplain (found_in there) name
         → IsRunOf (found_in there) answer (RunScript name Plainly) run → IsRunOf (found_in there) answer (RunScript name (Planned sampling)) other
-        → run.fault ≡ None → other.fault ≡ None → puts run.events ≡ puts other.events }
-    ensures told { (told : FilesTold) (answer : Answering) (name : List ℕ) (sampling : Sampling) (run other : Run)
-        → HasNoExplain (finds_in (Some told)) name
-        → IsRunOf (finds_in (Some told)) answer (RunScript name Plainly) run → IsRunOf (finds_in (Some told)) answer (RunScript name (Planned sampling)) other
         → run.fault ≡ None → other.fault ≡ None → puts run.events ≡ puts other.events }
 {
     plans_give_the_answer();
@@ -85,12 +77,12 @@ pub fn cursors_keep_their_rows()
         → IsCursorOf state.catalogue cursor → IndexesHold answer state.catalogue → (growing answer state.catalogue table rows).outcome ≡ Ok indexes
         → (fetched_step answer (record state { catalogue = grown table rows indexes state.catalogue }) (cursor, wanted)).events
         ≡ (fetched_step answer state (cursor, wanted)).events }
-    ensures statements { (told : Option FilesTold) (answer : Answering) (evaluating : Evaluating) (state later : State) (commands : List Command) (cursor : OpenCursor) (wanted : ℕ)
-        → AreWritten commands → IndexesHold answer state.catalogue → IsCursorOf state.catalogue cursor → LeadsTo (finds_in told) answer evaluating state commands later
+    ensures statements { (contents : Contents) (answer : Answering) (evaluating : Evaluating) (state later : State) (commands : List Command) (cursor : OpenCursor) (wanted : ℕ)
+        → AreWritten commands → IndexesHold answer state.catalogue → IsCursorOf state.catalogue cursor → LeadsTo (finds_in contents) answer evaluating state commands later
         → (fetched_step answer later (cursor, wanted)).events ≡ (fetched_step answer state (cursor, wanted)).events }
-    ensures declared { (told : Option FilesTold) (answer : Answering) (evaluating : Evaluating) (state later : State) (commands : List Command) (query : Query) (tree : PlanTree)
+    ensures declared { (contents : Contents) (answer : Answering) (evaluating : Evaluating) (state later : State) (commands : List Command) (query : Query) (tree : PlanTree)
         (name : List ℕ) (asked wanted : ℕ)
-        → Covers state.catalogue query → AreWritten commands → IndexesHold answer state.catalogue → LeadsTo (finds_in told) answer evaluating state commands later
+        → Covers state.catalogue query → AreWritten commands → IndexesHold answer state.catalogue → LeadsTo (finds_in contents) answer evaluating state commands later
         → (fetched_from answer later name asked wanted (ByPlan query tree (sizes_in state.catalogue))).events
         ≡ (asks_from (world_of state.catalogue answer query) tree asked (next_asks (world_of state.catalogue answer query) tree asked wanted)).events }
 {

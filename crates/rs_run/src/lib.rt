@@ -19,6 +19,7 @@ mod statement;
 mod status;
 mod threshold;
 mod top;
+mod view_laws;
 mod viewing;
 mod views;
 mod words;
@@ -31,4 +32,8 @@ pub use naming::unmade_predicate;
 pub use readers::Readers;
 pub use rs_statement::{Evaluating, Fault, Sampling, ScriptFault, SessionFault};
 pub use status::Status;
+pub use view_laws::{
+    fetches_of_views_put_what_plain_puts, fetches_of_views_put_what_selects_put,
+    held_views_have_their_answers,
+};
 pub use words::number_word;

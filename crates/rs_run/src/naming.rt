@@ -1,5 +1,5 @@
 ghost use Rattle.std.specs.Prelude.{◌≡◌, ◌≢◌, IfOk, None, option_map};
-ghost use Rattle.rs_events.specs.Events.{finds_in};
+ghost use Rattle.rs_outside.specs.Files.{KeepsFiles};
 ghost use Rattle.rs_syntax.specs.Syntax.{command_of, commands_of};
 ghost use Rattle.rs_run.specs.Naming.{Looks, has_predicate, makes_predicate, unmade_in};
 
@@ -26,8 +26,9 @@ pub fn unmade_predicate<'a, T, F: Files>(
     readers: &mut Readers<T>,
     files: &mut F,
 ) -> Result<Option<&'a Text>, Memory>
-    ensures { IfOk result (λ name. Looks (finds_in (F.state files.old).told) script.now names.now (option_map (λ name. name.now) name)
+    ensures looks { IfOk result (λ name. Looks script.now names.now (option_map (λ name. name.now) name)
         (F.state files.old) (F.state files.new)) }
+    ensures keeps { KeepsFiles (F.state files.old) (F.state files.new) }
 {
     match fetch_script(alloc, script, files) {
         Ok(text) => match readers.script.read(alloc, text) {

@@ -4,7 +4,7 @@ ghost use Rattle.rs_value.specs.Text.{text_of};
 ghost use Rattle.rs_statement.specs.Parts.Steps.{FetchesFile, Runs};
 ghost use Rattle.rs_run.specs.Parts.Read.{IsSource};
 ghost use Rattle.rs_run.specs.Plain.{TextRuns, as_it_is, or_text_fault, without_mark};
-ghost use Rattle.rs_events.specs.Events.{finds_in};
+ghost use Rattle.rs_outside.specs.Files.{finds_in};
 ghost use Rattle.rs_run.specs.Running.{IsRunOf};
 ghost use Rattle.rs_statement.specs.Session.{StatementsRun};
 ghost use Rattle.rs_run.specs.Words.{RunScript};
@@ -35,7 +35,7 @@ pub fn run_script<T: TableReader, F: Files, S: Scorer, O: Sink>(
     out: &mut O,
 ) -> Result<(), Fault>
     ensures { (beside : Environment) → Runs
-        (IsRunOf (finds_in (F.state files.old).told) (S.state scorer.old).answer (RunScript name.now evaluating)) result
+        (IsRunOf (finds_in (F.state files.old).contents) (S.state scorer.old).answer (RunScript name.now evaluating)) result
         (record beside { files = F.state files.old; scorer = S.state scorer.old; out = O.state out.old })
         (record beside { files = F.state files.new; scorer = S.state scorer.new; out = O.state out.new }) }
 {
@@ -90,7 +90,7 @@ fn run_text<T: TableReader, W: Host>(
 ) -> Result<(), Fault>
     requires { length script ≤ 1048576 }
     ensures { Runs
-        (TextRuns as_it_is (StatementsRun (finds_in (W.state host.old).files.told) (W.state host.old).scorer.answer evaluating) script) result
+        (TextRuns as_it_is (StatementsRun (finds_in (W.state host.old).files.contents) (W.state host.old).scorer.answer evaluating) script) result
         (W.state host.old) (W.state host.new) }
 {
     readers.script.read(alloc, script)?;

@@ -3,7 +3,7 @@ ghost use Rattle.rs_syntax.specs.Syntax.{command_of, commands_of};
 ghost use Rattle.rs_syntax.specs.Written.{AreWritten, IsWritten};
 ghost use Rattle.rs_catalog.specs.IndexesHold.{IndexesHold};
 ghost use Rattle.rs_statement.specs.Parts.Steps.{Runs, Stepped};
-ghost use Rattle.rs_events.specs.Events.{finds_in};
+ghost use Rattle.rs_outside.specs.Files.{finds_in};
 ghost use Rattle.rs_statement.specs.Statements.{Does};
 ghost use Rattle.rs_statement.specs.Session.{DoesInSession, StatementsRun};
 ghost use Rattle.rs_statement.specs.Parts.Session.{CanAllBeAsked, IsOfNoCursor, held_in, state_of};
@@ -28,7 +28,7 @@ pub fn run_statements<T: TableReader, W: Host>(
     host: &mut W,
 ) -> Result<(), Fault>
     requires written { AreWritten (commands_of statements.now) }
-    ensures { Runs (StatementsRun (finds_in (W.state host.old).files.told) (W.state host.old).scorer.answer evaluating (commands_of statements.now)) result
+    ensures { Runs (StatementsRun (finds_in (W.state host.old).files.contents) (W.state host.old).scorer.answer evaluating (commands_of statements.now)) result
         (W.state host.old) (W.state host.new) }
 {
     let mut catalog = Catalog::new(alloc);
@@ -68,7 +68,7 @@ fn run_statement<T: TableReader, W: Host>(
     requires held { IndexesHold (W.state host.old).scorer.answer catalog.old }
     requires asked { CanAllBeAsked (W.state host.old).scorer.answer catalog.old (held_in session.old) }
     ensures does { Stepped
-        (DoesInSession (finds_in (W.state host.old).files.told) (W.state host.old).scorer.answer evaluating
+        (DoesInSession (finds_in (W.state host.old).files.contents) (W.state host.old).scorer.answer evaluating
         (state_of catalog.old (held_in session.old)) (command_of statement.now)) (state_of catalog.new (held_in session.new)) result
         (W.state host.old) (W.state host.new) }
     ensures held { IfOk result (λ _. IndexesHold (W.state host.old).scorer.answer catalog.new) }
@@ -106,7 +106,7 @@ pub(crate) fn run_without_cursor<T: TableReader, W: Host>(
     requires written { IsWritten (command_of statement.now) }
     requires held { IndexesHold (W.state host.old).scorer.answer catalog.old }
     ensures { Stepped
-        (Does (finds_in (W.state host.old).files.told) (W.state host.old).scorer.answer evaluating catalog.old (command_of statement.now)) catalog.new result
+        (Does (finds_in (W.state host.old).files.contents) (W.state host.old).scorer.answer evaluating catalog.old (command_of statement.now)) catalog.new result
         (W.state host.old) (W.state host.new) }
 {
     match statement {

@@ -1,6 +1,6 @@
 //! The word `ta`: a script whose queries are answered by threshold scans.
 
-ghost use Rattle.std.specs.Prelude.{◌≡◌, ◌≤◌, ◌∷◌, ◌++◌, ℕ, [], IfOk, OnOk, Some, false, length};
+ghost use Rattle.std.specs.Prelude.{◌≡◌, ◌≤◌, ◌∷◌, ◌++◌, ℕ, [], IfOk, OnErr, OnOk, Some, false, length};
 ghost use Rattle.std.specs.String.{string_bytes};
 ghost use Rattle.rs_value.specs.Answer.{Gives};
 ghost use Rattle.rs_lines.specs.Row.{line_of};
@@ -12,14 +12,16 @@ ghost use Rattle.rs_query.specs.WellFormed.{IsBlock, IsQuery};
 ghost use Rattle.rs_query.specs.declared.query.Query.TheVariants.{One};
 ghost use Rattle.rs_ta.specs.Depths.{ScanInput};
 ghost use Rattle.rs_ta.specs.Eligible.{answer_for, block_input, eligible_indexes};
+ghost use Rattle.rs_ta.specs.IndexLists.{index_lists_state};
+ghost use Rattle.rs_ta.specs.Scans.{AreAccessed};
 ghost use Rattle.rs_events.specs.Environment.{Environment};
-ghost use Rattle.rs_events.specs.Events.{finds_in};
+ghost use Rattle.rs_outside.specs.Files.{finds_in};
 ghost use Rattle.rs_events.specs.Run.{lines_run};
 ghost use Rattle.rs_events.specs.Running.{Ran, Runs, Stepped};
 ghost use Rattle.rs_statement.specs.Lines.{rank_lines};
 ghost use Rattle.rs_statement.specs.Statements.{or_bind_fault};
 ghost use Rattle.rs_run.specs.Faults.{run_faults};
-ghost use Rattle.rs_run.specs.Parts.Scanning.{IsAsked, IsBlockRow, IsScanning, IsUnasked, Makes, accesses_text, most_asks, scan_input, scanned_rows};
+ghost use Rattle.rs_run.specs.Parts.Scanning.{IsAsked, IsBlockRow, IsBrokenOff, IsScanning, IsUnasked, Makes, accesses_text, most_asks, scan_input, scanned_rows};
 ghost use Rattle.rs_run.specs.Plain.{TextRuns};
 ghost use Rattle.rs_run.specs.Running.{IsFormRun};
 ghost use Rattle.rs_run.specs.Threshold.{DoesByScan, ScansRun, access_line, scan_asks, scan_lines, scan_step, scanned_step};
@@ -60,7 +62,7 @@ pub fn run_by_scan<T: TableReader, F: Files, S: Scorer, O: Sink>(
     out: &mut O,
 ) -> Result<(), RunFault>
     ensures { (beside : Environment) → Runs run_faults
-        (IsFormRun (finds_in (F.state files.old).told) (S.state scorer.old).answer (Threshold name.now)) result
+        (IsFormRun (finds_in (F.state files.old).contents) (S.state scorer.old).answer (Threshold name.now)) result
         (record beside { files = F.state files.old; scorer = S.state scorer.old; out = O.state out.old })
         (record beside { files = F.state files.new; scorer = S.state scorer.new; out = O.state out.new }) }
 {
@@ -78,7 +80,7 @@ fn scan_text<T: TableReader, W: Host>(
 ) -> Result<(), RunFault>
     requires { length script ≤ 1048576 }
     ensures { Runs run_faults
-        (TextRuns RunFault.Statement (ScansRun (finds_in (W.state host.old).files.told) (W.state host.old).scorer.answer) script) result
+        (TextRuns RunFault.Statement (ScansRun (finds_in (W.state host.old).files.contents) (W.state host.old).scorer.answer) script) result
         (W.state host.old) (W.state host.new) }
 {
     readers.script.read(alloc, script)?;
@@ -94,7 +96,7 @@ fn scan_statements<T: TableReader, W: Host>(
     host: &mut W,
 ) -> Result<(), RunFault>
     requires written { AreWritten (commands_of statements.now) }
-    ensures { Runs run_faults (ScansRun (finds_in (W.state host.old).files.told) (W.state host.old).scorer.answer (commands_of statements.now)) result
+    ensures { Runs run_faults (ScansRun (finds_in (W.state host.old).files.contents) (W.state host.old).scorer.answer (commands_of statements.now)) result
         (W.state host.old) (W.state host.new) }
 {
     let mut catalog = Catalog::new(alloc);
@@ -123,7 +125,7 @@ fn scan_statement<T: TableReader, W: Host>(
     requires written { IsWritten (command_of statement.now) }
     requires held { IndexesHold (W.state host.old).scorer.answer catalog.old }
     ensures does { Stepped run_faults
-        (DoesByScan (finds_in (W.state host.old).files.told) (W.state host.old).scorer.answer number catalog.old (command_of statement.now)) catalog.new result
+        (DoesByScan (finds_in (W.state host.old).files.contents) (W.state host.old).scorer.answer number catalog.old (command_of statement.now)) catalog.new result
         (W.state host.old) (W.state host.new) }
     ensures held { IfOk result (λ _. IndexesHold (W.state host.old).scorer.answer catalog.new) }
 {
@@ -150,7 +152,7 @@ fn make<T: TableReader, W: Host>(
     requires written { IsWritten (command_of statement.now) }
     requires held { IndexesHold (W.state host.old).scorer.answer catalog.old }
     ensures does { (number : ℕ) → Stepped run_faults
-        (DoesByScan (finds_in (W.state host.old).files.told) (W.state host.old).scorer.answer number catalog.old (command_of statement.now)) catalog.new result
+        (DoesByScan (finds_in (W.state host.old).files.contents) (W.state host.old).scorer.answer number catalog.old (command_of statement.now)) catalog.new result
         (W.state host.old) (W.state host.new) }
     ensures held { IfOk result (λ _. IndexesHold (W.state host.old).scorer.answer catalog.new) }
 {
@@ -256,7 +258,7 @@ fn scan_block<W: Host>(
     put
 }
 
-/// Puts the rows that a new scan of a block gives, and the line of its accesses.
+/// Puts the rows that a new scan of a block gives, and the line of its accesses. The lists have the accesses that what is put takes.
 fn put_scan<O: Sink>(
     alloc: Global,
     limit: Option<u32>,
@@ -272,10 +274,16 @@ fn put_scan<O: Sink>(
     requires test { test.now ≡ record { catalogue = catalog.now; block = block.now } }
     requires scanning { IsScanning test.now scan.old lists.old }
     requires unasked { IsUnasked scan.old }
-    ensures { (beside : Environment) → let i = scan_input test.now scan.old lists.old in
+    ensures puts { (beside : Environment) → let i = scan_input test.now scan.old lists.old in
         Ran run_faults (lines_run (rank_lines 1 (scanned_rows test.now limit i) ++ access_line i (scan_asks limit i) ∷ [])) result
         (record beside { out = O.state out.old }) (record beside { out = O.state out.new }) }
+    ensures accessed { OnOk result (let i = scan_input test.now scan.old lists.old in AreAccessed i (scan_asks limit i) (index_lists_state lists.new)) }
+    ensures broken { OnErr result (let i = scan_input test.now scan.old lists.old in
+        IsBrokenOff i (scan_asks limit i) (rank_lines 1 (scanned_rows test.now limit i) ++ access_line i (scan_asks limit i) ∷ [])
+        (O.state out.old) (O.state out.new) (index_lists_state lists.new)) }
 {
+    // Its contract says that the lists are ranked.
+    let _ = lists.lists();
     put_scanned_rows(alloc, limit, block, catalog, test, scan, lists, out)?;
     put_accesses(alloc, scan, lists, out)
 }
@@ -300,6 +308,8 @@ fn put_scanned_rows<O: Sink>(
         Ran run_faults (lines_run (rank_lines 1 (scanned_rows test.now limit i))) result
         (record beside { out = O.state out.old }) (record beside { out = O.state out.new }) }
     ensures asked { OnOk result (let i = scan_input test.now scan.old lists.old in IsAsked i (scan_asks limit i) scan.new lists.new) }
+    ensures broken { OnErr result (let i = scan_input test.now scan.old lists.old in
+        IsBrokenOff i (scan_asks limit i) (rank_lines 1 (scanned_rows test.now limit i)) (O.state out.old) (O.state out.new) (index_lists_state lists.new)) }
 {
     thresholds_and_answers_rise();
     // Its contract says that the lists are ranked.

@@ -6,7 +6,7 @@ ghost use Rattle.rs_table.specs.Column.{Column, place_of};
 ghost use Rattle.rs_table.specs.NumberColumn.{HasNumberColumn};
 ghost use Rattle.rs_catalog.specs.Indexes.{row_at};
 ghost use Rattle.rs_catalog.specs.Making.{as_ranking};
-ghost use Rattle.rs_events.specs.Events.{finds_in};
+ghost use Rattle.rs_outside.specs.Files.{finds_in};
 ghost use Rattle.rs_run.specs.Running.{IsRunOf};
 ghost use Rattle.rs_run.specs.Top.{best_rows, named_table, number_at, row_answer, scored_rows};
 ghost use Rattle.rs_statement.specs.Parts.Steps.{FetchesFile, Runs};
@@ -34,7 +34,7 @@ pub fn top<F: Files, O: Sink>(
     out: &mut O,
 ) -> Result<(), Fault>
     ensures { (beside : Environment) → Runs
-        (IsRunOf (finds_in (F.state files.old).told) beside.scorer.answer (Top (record { file = file.now; column = column.now; max = max; count = count }))) result
+        (IsRunOf (finds_in (F.state files.old).contents) beside.scorer.answer (Top (record { file = file.now; column = column.now; max = max; count = count }))) result
         (record beside { files = F.state files.old; out = O.state out.old }) (record beside { files = F.state files.new; out = O.state out.new }) }
 {
     let table = fetch_table(alloc, file, column, files)?;

@@ -7,7 +7,7 @@ ghost use Rattle.rs_catalog.specs.IndexesHold.{IndexesHold};
 ghost use Rattle.rs_query.specs.WellFormed.{IsQuery};
 ghost use Rattle.rs_bind.specs.Inserts.{IsInsert};
 ghost use Rattle.rs_events.specs.Environment.{Environment};
-ghost use Rattle.rs_events.specs.Events.{finds_in};
+ghost use Rattle.rs_outside.specs.Files.{finds_in};
 ghost use Rattle.rs_events.specs.Running.{Runs, Stepped};
 ghost use Rattle.rs_statement.specs.Parts.Steps as steps;
 ghost use Rattle.rs_run.specs.Faults.{run_faults};
@@ -47,7 +47,7 @@ pub fn run_with_views<T: TableReader, F: Files, S: Scorer, O: Sink>(
     out: &mut O,
 ) -> Result<(), RunFault>
     ensures { (beside : Environment) → Runs run_faults
-        (IsFormRun (finds_in (F.state files.old).told) (S.state scorer.old).answer (Views name.now)) result
+        (IsFormRun (finds_in (F.state files.old).contents) (S.state scorer.old).answer (Views name.now)) result
         (record beside { files = F.state files.old; scorer = S.state scorer.old; out = O.state out.old })
         (record beside { files = F.state files.new; scorer = S.state scorer.new; out = O.state out.new }) }
 {
@@ -65,7 +65,7 @@ fn view_text<T: TableReader, W: Host>(
 ) -> Result<(), RunFault>
     requires { length script ≤ 1048576 }
     ensures { Runs run_faults
-        (TextRuns RunFault.Statement (ViewsRun (finds_in (W.state host.old).files.told) (W.state host.old).scorer.answer) script) result
+        (TextRuns RunFault.Statement (ViewsRun (finds_in (W.state host.old).files.contents) (W.state host.old).scorer.answer) script) result
         (W.state host.old) (W.state host.new) }
 {
     readers.script.read(alloc, script)?;
@@ -81,7 +81,7 @@ fn view_statements<T: TableReader, W: Host>(
     host: &mut W,
 ) -> Result<(), RunFault>
     requires written { AreWritten (commands_of statements.now) }
-    ensures { Runs run_faults (ViewsRun (finds_in (W.state host.old).files.told) (W.state host.old).scorer.answer (commands_of statements.now)) result
+    ensures { Runs run_faults (ViewsRun (finds_in (W.state host.old).files.contents) (W.state host.old).scorer.answer (commands_of statements.now)) result
         (W.state host.old) (W.state host.new) }
 {
     let mut catalog = Catalog::new(alloc);
@@ -123,7 +123,7 @@ fn view_statement<T: TableReader, W: Host>(
     requires indexes { IndexesHold (W.state host.old).scorer.answer catalog.old }
     requires stand { AllStand (W.state host.old).scorer.answer catalog.old (views_in held.old) }
     ensures does { Stepped run_faults
-        (DoesByViews (finds_in (W.state host.old).files.told) (W.state host.old).scorer.answer number (kept_of catalog.old (views_in held.old)) (command_of statement.now))
+        (DoesByViews (finds_in (W.state host.old).files.contents) (W.state host.old).scorer.answer number (kept_of catalog.old (views_in held.old)) (command_of statement.now))
         (kept_of catalog.new (views_in held.new)) result (W.state host.old) (W.state host.new) }
     ensures indexes { IfOk result (λ _. IndexesHold (W.state host.old).scorer.answer catalog.new) }
     ensures stand { IfOk result (λ _. AllStand (W.state host.old).scorer.answer catalog.new (views_in held.new)) }
@@ -217,7 +217,7 @@ fn told<T: TableReader, W: Host>(
     requires indexes { IndexesHold (W.state host.old).scorer.answer catalog.old }
     requires stand { AllStand (W.state host.old).scorer.answer catalog.old (views_in held.old) }
     ensures does { (number : ℕ) → Stepped run_faults
-        (DoesByViews (finds_in (W.state host.old).files.told) (W.state host.old).scorer.answer number (kept_of catalog.old (views_in held.old)) (command_of statement.now))
+        (DoesByViews (finds_in (W.state host.old).files.contents) (W.state host.old).scorer.answer number (kept_of catalog.old (views_in held.old)) (command_of statement.now))
         (kept_of catalog.new (views_in held.new)) result (W.state host.old) (W.state host.new) }
     ensures indexes { IfOk result (λ _. IndexesHold (W.state host.old).scorer.answer catalog.new) }
     ensures stand { IfOk result (λ _. AllStand (W.state host.old).scorer.answer catalog.new (views_in held.new)) }
@@ -240,7 +240,7 @@ fn run_kept<T: TableReader, W: Host>(
     requires indexes { IndexesHold (W.state host.old).scorer.answer catalog.old }
     requires stand { AllStand (W.state host.old).scorer.answer catalog.old (views_in held.old) }
     ensures does { steps.Stepped
-        (DoesKept (finds_in (W.state host.old).files.told) (W.state host.old).scorer.answer (kept_of catalog.old (views_in held.old)) (command_of statement.now))
+        (DoesKept (finds_in (W.state host.old).files.contents) (W.state host.old).scorer.answer (kept_of catalog.old (views_in held.old)) (command_of statement.now))
         (kept_of catalog.new (views_in held.new)) result (W.state host.old) (W.state host.new) }
     ensures indexes { IfOk result (λ _. IndexesHold (W.state host.old).scorer.answer catalog.new) }
     ensures stand { IfOk result (λ _. AllStand (W.state host.old).scorer.answer catalog.new (views_in held.new)) }
@@ -269,7 +269,7 @@ fn insert_and_grow<S: Scorer>(
     requires indexes { IndexesHold (S.state scorer.old).answer catalog.old }
     requires stand { AllStand (S.state scorer.old).answer catalog.old (views_in held.old) }
     ensures does { (beside : Environment) → steps.Stepped
-        (DoesKept (finds_in beside.files.told) (S.state scorer.old).answer (kept_of catalog.old (views_in held.old)) (command_of statement.now))
+        (DoesKept (finds_in beside.files.contents) (S.state scorer.old).answer (kept_of catalog.old (views_in held.old)) (command_of statement.now))
         (kept_of catalog.new (views_in held.new)) result
         (record beside { scorer = S.state scorer.old }) (record beside { scorer = S.state scorer.new }) }
     ensures indexes { IfOk result (λ _. IndexesHold (S.state scorer.old).answer catalog.new) }

@@ -1,9 +1,9 @@
 ghost use Rattle.std.specs.Prelude.{◌≡◌, ◌≢◌, [], Err, IfErr, IfSome, IsSome, List, MatchOption, None, OnOk, Option, Result, Some, ◌++◌, ℕ, find, option_map};
 ghost use Rattle.std.specs.Str.{bytes_eq};
 ghost use Rattle.rs_value.specs.Outside.{Counts};
-ghost use Rattle.rs_outside.specs.Files.{Fetches};
+ghost use Rattle.rs_outside.specs.Files.{Fetches, FindsFile, StaysKnown};
 ghost use Rattle.rs_outside.specs.declared.files.FetchFault.{FetchFault as Fault};
-ghost use Rattle.rs_scores.specs.KnownFiles.{Found, Looks, found_under, found_with, known_state};
+ghost use Rattle.rs_scores.specs.KnownFiles.{Found, Looks, found_under, found_with, known_contents, known_state};
 
 use rs_outside::{FetchFault, Files};
 use rs_value::{List as Items, Text};
@@ -27,7 +27,7 @@ impl Model for FoundFile {
 }
 
 /// Files of which each is fetched once: every later fetch of a name gives the same bytes, or says that no file is there,
-/// whatever became of it. Where the fetch failed, or the file was longer than was allowed, it is looked for again.
+/// whatever became of it. So what was found is known of them. Where the fetch failed, or the file was longer than was allowed, it is looked for again.
 #[derive(Drop)]
 pub struct KnownFiles<F> {
     files: F,
@@ -132,11 +132,12 @@ impl<F: Files> KnownFiles<F> {
 }
 
 impl<F: Files> Files for KnownFiles<F> {
-    ghost state = { λ k. known_state (F.state k.files) };
+    ghost state = { λ k. known_state k.found (F.state k.files) };
 
     fn fetch(&mut self, name: &Text, limit: usize, into: &mut Vec<u8>) -> Result<(), FetchFault>
-        ensures fetches { (there : Option (List ℕ)) × Fetches there limit into.old.items result into.new.items }
-        ensures counts { Counts (result ≡ Err FetchFault.Failed) (known_state (F.state self.old.files)) (known_state (F.state self.new.files)) }
+        ensures fetches { FindsFile name.now limit result into.old.items into.new.items (known_state self.new.found (F.state self.new.files)) }
+        ensures stays_known { StaysKnown (known_contents self.old.found (F.state self.old.files).contents) (known_contents self.new.found (F.state self.new.files).contents) }
+        ensures counts { Counts (result ≡ Err FetchFault.Failed) (known_state self.old.found (F.state self.old.files)).outside (known_state self.new.found (F.state self.new.files)).outside }
 
         // What was found stays, and a name under which something was found is looked for no more.
         ensures stays { (more : List Found) × (self.new.found ≡ self.old.found ++ more) }

@@ -59,7 +59,7 @@ use Rattle.rs_statement.specs.declared.session.CursorRows.{CursorRows}
 use Rattle.rs_statement.specs.declared.session.CursorRows.TheVariants as held
 use Rattle.rs_statement.specs.Parts.Session.{CanAllBeAsked, CanBeAsked}
 use Rattle.rs_statement.specs.Planned.{ask_count, ask_step, asks_from, plan_for, planned_step}
-use Rattle.rs_events.specs.Events.{Finds}
+use Rattle.rs_outside.specs.Files.{Finds}
 use Rattle.rs_statement.specs.Steps.{Step}
 use Rattle.rs_events.specs.Sequence.{silent, then_step}
 use Rattle.rs_statement.specs.Statements.{Does, DoesTable, analyze_step, analyzed_step, bind_fault, explain_outcome, explain_step, explained_step, index_step, or_bind_fault, or_room_fault, predicate_outcome, query_outcome, query_step, refused_or, select_step, table_step, with_room}

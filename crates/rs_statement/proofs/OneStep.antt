@@ -10,7 +10,7 @@ use Rattle.rs_catalog.specs.declared.room.What.TheVariants as what
 use Rattle.rs_bind.specs.Names.{columns_of}
 use Rattle.rs_statement.specs.declared.fault.Fault.{Fault}
 use Rattle.rs_expr.specs.Scoring.{Answering}
-use Rattle.rs_events.specs.Events.{Finds}
+use Rattle.rs_outside.specs.Files.{Finds}
 use Rattle.rs_statement.specs.Steps.{Run, Step}
 use Rattle.rs_events.proofs.OneRun.{OneFile, RunOf-one}
 use Rattle.rs_statement.specs.declared.evaluating.Evaluating.{Evaluating}

@@ -58,7 +58,8 @@ use Rattle.rs_statement.specs.declared.fault.Fault.{Fault}
 use Rattle.rs_statement.specs.declared.fault.Fault.TheVariants.{Memory, Write, Read, Table, BadScore, Probe, Script, Session}
 use Rattle.rs_statement.specs.Content.{content_of, or_read_fault, or_table_fault, table_limit}
 use Rattle.rs_expr.specs.Scoring.{Answering}
-use Rattle.rs_events.specs.Events.{Event, Finds}
+use Rattle.rs_events.specs.Events.{Event}
+use Rattle.rs_outside.specs.Files.{Finds}
 use Rattle.rs_statement.specs.Steps.{Run, Step}
 use Rattle.rs_statement.specs.Planned.{ask_count, ask_outcome, ask_step, asks_from, asks_in_all, next_asks, plan_for, planned_step}
 use Rattle.rs_events.specs.Sequence.{RunOf, RunsOn, silent, still, then_step}

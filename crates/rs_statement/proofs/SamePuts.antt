@@ -41,7 +41,8 @@ use Rattle.rs_statement.specs.declared.evaluating.Evaluating.TheVariants.{Planne
 use Rattle.rs_statement.specs.declared.fault.Fault.{Fault}
 use Rattle.rs_statement.specs.Lines.{ComeFirst, rank_lines}
 use Rattle.rs_statement.specs.Planned.{ask_count, ask_outcome, ask_step, asks_from, cards_for, given_lines, next_asks, plan_for, planned_step}
-use Rattle.rs_events.specs.Events.{Event, Finds, Put, calls_in, puts}
+use Rattle.rs_events.specs.Events.{Event, Put, calls_in, puts}
+use Rattle.rs_outside.specs.Files.{Finds}
 use Rattle.rs_statement.specs.Steps.{Run, Step}
 use Rattle.rs_events.specs.Run.{behind}
 use Rattle.rs_statement.specs.Sampled.{sample_inquiry, sample_step}

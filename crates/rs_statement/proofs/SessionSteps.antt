@@ -31,7 +31,7 @@ use Rattle.rs_statement.specs.Parts.Session.{IsOfNoCursor, asked_of, cursors_of,
 use Rattle.rs_statement.specs.Parts.Steps.{Ran, Stepped}
 use Rattle.rs_events.specs.Sequence.{run_of, still, then_step}
 use Rattle.rs_statement.specs.Planned.{plan_for}
-use Rattle.rs_events.specs.Events.{Finds}
+use Rattle.rs_outside.specs.Files.{Finds}
 use Rattle.rs_statement.specs.Sampled.{sample_step}
 use Rattle.rs_statement.specs.Steps.{Step}
 use Rattle.rs_statement.specs.Session.{ByPlan, DoesInSession, OpenCursor, State, asked_more, beside_cursors, close_outcome, cursor_named, declare_step, declared_query, fetch_step, fetched_cursor, fetched_from, next_rows, opened_step, with_asks, with_cursor, without_cursor}

@@ -1,7 +1,8 @@
 -- What statements do over files that were fetched from before.
-use Rattle.std.proofs.Common.{ℕ, zero, suc, ◌≡◌, List, [], ◌∷◌, Some, None, refl, sym, subst, arith}
-use Rattle.std.specs.Prelude.{Option, Result, Ok, Err, length, option_map, slice_index_or, ◌<◌}
-use Rattle.rs_outside.specs.Files.{FilesTold}
+use Rattle.std.proofs.Common.{ℕ, zero, suc, ◌≡◌, List, [], ◌∷◌, refl, sym, subst, arith}
+use Rattle.std.specs.Prelude.{Option, Result, Ok, Err, length, slice_index_or, ◌<◌}
+use Rattle.rs_outside.specs.Files.{Contents, Finds, finds_in}
+use Rattle.rs_outside.proofs.ContentsFacts.{finds-before}
 use Rattle.rs_table.specs.Column.{Column}
 use Rattle.rs_expr.specs.Scoring.{Answering}
 use Rattle.rs_catalog.specs.Catalog.{CatalogDef}
@@ -10,10 +11,9 @@ use Rattle.rs_syntax.specs.declared.name.Name.{Name}
 use Rattle.rs_syntax.specs.declared.statement.Statement.{Statement}
 use Rattle.rs_syntax.specs.Written.{AreWritten, IsWritten}
 use Rattle.rs_statement.specs.declared.fault.Fault.{Fault}
-use Rattle.rs_events.specs.Halts.{fetched_more}
 use Rattle.rs_events.specs.Running.{HasDone}
 use Rattle.rs_statement.specs.Parts.Steps.{Stepped}
-use Rattle.rs_events.specs.Events.{Event, Finds, fetches, finds_in}
+use Rattle.rs_events.specs.Events.{Event}
 use Rattle.rs_statement.specs.Steps.{Step}
 use Rattle.rs_statement.specs.declared.evaluating.Evaluating.{Evaluating}
 use Rattle.rs_statement.specs.Statements.{Does, DoesTable}
@@ -21,14 +21,6 @@ use Rattle.rs_statement.specs.Session.{DoesInSession, State, beside_cursors}
 use Rattle.rs_events.specs.Environment.{Environment}
 use Rattle.rs_statement.proofs.StepFacts.{some-table}
 use Rattle.rs_events.proofs.SteppedFacts.{Stepped-map}
-
--- files that were fetched from hold what they held
-pub finds-after : (before after : Option FilesTold) (names : List (List ℕ)) → after ≡ option_map (fetched_more names) before → (name : List ℕ) (there : Option (List ℕ))
-    → finds_in after name there → finds_in before name there
-finds-after before after names e name there found = go before (subst (λ told. finds_in told name there) e found) where
-  go : (told : Option FilesTold) → finds_in (option_map (fetched_more names) told) name there → finds_in told name there
-  go None f = tt
-  go (Some told) f = f
 
 -- what a statement does where files hold as much
 DoesTable-finds : (a b : Finds) → ((name : List ℕ) (there : Option (List ℕ)) → a name there → b name there) → (catalogue : CatalogDef) (name : Name) (file : List ℕ) (bound : Result (List Column) Fault) (step : Step CatalogDef)
@@ -69,30 +61,30 @@ DoesInSession-finds a b more answer evaluating state command step = go command w
   go (Insert table rows) does = own (Insert table rows) does
 
 -- each statement does something
-pub some-step : (told : Option FilesTold) (answer : Answering) (evaluating : Evaluating) (state : State) (command : Command)
-    → (step : Step State) × DoesInSession (finds_in told) answer evaluating state command step
-some-step told answer evaluating state (CreateTable name columns file) =
-    let made = some-table told state.catalogue name file _ in (beside_cursors state.cursors made.step, (made.step, made.does, refl))
-some-step told answer evaluating state (CreatePredicate name params max cost formula) = (_, (_, refl, refl))
-some-step told answer evaluating state (CreateRankIndex name table predicate args at) = (_, (_, refl, refl))
-some-step told answer evaluating state (Ask query) = (_, (_, refl, refl))
-some-step told answer evaluating state (Declare name query) = (_, refl)
-some-step told answer evaluating state (Fetch count name) = (_, refl)
-some-step told answer evaluating state (Close name) = (_, refl)
-some-step told answer evaluating state (Explain query) = (_, (_, refl, refl))
-some-step told answer evaluating state (ExplainAnalyze query) = (_, (_, refl, refl))
-some-step told answer evaluating state (Insert table rows) = (_, (_, refl, refl))
+pub some-step : (contents : Contents) (answer : Answering) (evaluating : Evaluating) (state : State) (command : Command)
+    → (step : Step State) × DoesInSession (finds_in contents) answer evaluating state command step
+some-step contents answer evaluating state (CreateTable name columns file) =
+    let made = some-table contents state.catalogue name file _ in (beside_cursors state.cursors made.step, (made.step, made.does, refl))
+some-step contents answer evaluating state (CreatePredicate name params max cost formula) = (_, (_, refl, refl))
+some-step contents answer evaluating state (CreateRankIndex name table predicate args at) = (_, (_, refl, refl))
+some-step contents answer evaluating state (Ask query) = (_, (_, refl, refl))
+some-step contents answer evaluating state (Declare name query) = (_, refl)
+some-step contents answer evaluating state (Fetch count name) = (_, refl)
+some-step contents answer evaluating state (Close name) = (_, refl)
+some-step contents answer evaluating state (Explain query) = (_, (_, refl, refl))
+some-step contents answer evaluating state (ExplainAnalyze query) = (_, (_, refl, refl))
+some-step contents answer evaluating state (Insert table rows) = (_, (_, refl, refl))
 
 -- a statement behind events that were done does what it does over what was there at first
 pub Stepped-first : (made : List Event) (evaluating : Evaluating) (state left : State) (command : Command) (result : Result (Unit {0}) Fault) (old middle new : Environment)
-    → HasDone made old middle → Stepped (DoesInSession (finds_in middle.files.told) middle.scorer.answer evaluating state command) left result middle new
-    → Stepped (DoesInSession (finds_in old.files.told) old.scorer.answer evaluating state command) left result middle new
+    → HasDone made old middle → Stepped (DoesInSession (finds_in middle.files.contents) middle.scorer.answer evaluating state command) left result middle new
+    → Stepped (DoesInSession (finds_in old.files.contents) old.scorer.answer evaluating state command) left result middle new
 Stepped-first made evaluating state left command result old middle new has stepped =
-    Stepped-map (DoesInSession (finds_in middle.files.told) middle.scorer.answer evaluating state command) (DoesInSession (finds_in old.files.told) old.scorer.answer evaluating state command)
+    Stepped-map (DoesInSession (finds_in middle.files.contents) middle.scorer.answer evaluating state command) (DoesInSession (finds_in old.files.contents) old.scorer.answer evaluating state command)
     left result middle new
-    (λ step does. DoesInSession-finds (finds_in middle.files.told) (finds_in old.files.told) (finds-after old.files.told middle.files.told (fetches made) has.all.fetched)
+    (λ step does. DoesInSession-finds (finds_in middle.files.contents) (finds_in old.files.contents) (finds-before old.files.contents middle.files.contents has.keeps.files.contents)
     old.scorer.answer evaluating state command step
-    (subst (λ answer. DoesInSession (finds_in middle.files.told) answer evaluating state command step) has.keeps.scorer.answer does)) stepped
+    (subst (λ answer. DoesInSession (finds_in middle.files.contents) answer evaluating state command step) has.keeps.scorer.answer does)) stepped
 
 pub written-at : (xs : List Statement) (i : ℕ) (x : Statement) → i < length xs → x ≡ slice_index_or xs i x → AreWritten (commands_of xs) → IsWritten (command_of x)
 written-at [] i x within e h = absurd (omega (arith, within))

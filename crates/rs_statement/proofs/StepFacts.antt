@@ -1,9 +1,9 @@
 -- What the steps of statements did, from what their parts did.
-use Rattle.std.proofs.Common.{ℕ, ℤ, ◌≡◌, ◌∙◌, List, [], ◌∷◌, Some, None, refl, sym, ap, subst, inl, inr}
+use Rattle.std.proofs.Common.{ℕ, ℤ, ◌≡◌, ◌∙◌, List, [], ◌∷◌, None, refl, sym, ap, subst, inl, inr}
 use Rattle.std.specs.Prelude.{Option, Result, Ok, Err}
 use Rattle.rs_value.specs.Answer.{Gives}
-use Rattle.rs_value.specs.Outside.{Outside}
-use Rattle.rs_outside.specs.Files.{FilesTold, file_named}
+use Rattle.rs_outside.specs.Files.{Contents, FilesState, Finds, finds_in}
+use Rattle.rs_outside.proofs.ContentsFacts.{finds-some}
 use Rattle.rs_table.specs.Column.{Column}
 use Rattle.rs_value.specs.Results.{◌>>=◌}
 use Rattle.rs_table.specs.Reading.{table_of}
@@ -29,12 +29,12 @@ use Rattle.rs_statement.specs.Content.{content_of, or_table_fault, table_limit}
 use Rattle.rs_statement.specs.Parts.Session.{IsOfNoCursor}
 use Rattle.rs_statement.specs.Parts.Steps.{FetchesFile, IsReadTable, Ran, Stepped}
 use Rattle.rs_events.specs.Sequence.{run_of, still}
-use Rattle.rs_events.specs.Events.{Fetch, Finds, finds_in}
+use Rattle.rs_events.specs.Events.{Fetch}
 use Rattle.rs_statement.specs.Steps.{Step}
 use Rattle.rs_statement.specs.declared.evaluating.Evaluating.{Evaluating}
 use Rattle.rs_statement.specs.Statements.{Does, DoesTable, analyze_step, explain_step, index_step, predicate_outcome, refused_or, select_step, table_step, with_room}
 use Rattle.rs_events.specs.Environment.{Environment}
-use Rattle.rs_events.proofs.FetchFacts.{Ran-unfetched, fault-at, fetched-ok}
+use Rattle.rs_events.proofs.FetchFacts.{Ran-unfetched, fault-at, fetched-ok, found-before}
 use Rattle.rs_events.proofs.RanFacts.{Ran-all, Ran-no_memory}
 use Rattle.rs_events.proofs.SteppedFacts.{Stepped-no_memory, Stepped-still, events-run_of, step_of}
 
@@ -82,18 +82,14 @@ unfolding read_of outcome_of
 outcome-ok catalogue name file columns there table e = bind-ok (content_of table_limit file there) _ _ table (sym e)
 
 -- some step does what a statement of a table does, whatever it binds
-pub record SomeTable (told : Option FilesTold) (catalogue : CatalogDef) (name : Name) (file : List ℕ) (bound : Result (List Column) Fault) : Type 0 where
+pub record SomeTable (contents : Contents) (catalogue : CatalogDef) (name : Name) (file : List ℕ) (bound : Result (List Column) Fault) : Type 0 where
   pub step : Step CatalogDef
-  pub does : DoesTable (finds_in told) catalogue name file bound step
+  pub does : DoesTable (finds_in contents) catalogue name file bound step
 
-pub found-some : (told : Option FilesTold) (file : List ℕ) → (there : Option (List ℕ)) × finds_in told file there
-found-some (Some told) file = (file_named file told.folder, refl)
-found-some None file = (None, tt)
-
-pub some-table : (told : Option FilesTold) (catalogue : CatalogDef) (name : Name) (file : List ℕ) (bound : Result (List Column) Fault) → SomeTable told catalogue name file bound
-some-table told catalogue name file (Err fault) = record { step = still (Err fault); does = refl }
-some-table told catalogue name file (Ok columns) =
-    let found = found-some told file in record { step = table_step catalogue name file columns found.0; does = (found.0, found.1, refl) }
+pub some-table : (contents : Contents) (catalogue : CatalogDef) (name : Name) (file : List ℕ) (bound : Result (List Column) Fault) → SomeTable contents catalogue name file bound
+some-table contents catalogue name file (Err fault) = record { step = still (Err fault); does = refl }
+some-table contents catalogue name file (Ok columns) =
+    let found = finds-some contents file in record { step = table_step catalogue name file columns found.0; does = (found.0, found.1, refl) }
 
 does-table : (finds : Finds) (catalogue : CatalogDef) (name : Name) (file : List ℕ) (bound : Result (List Column) Fault) (columns : List Column) (there : Option (List ℕ))
     → bound ≡ Ok columns → finds file there → DoesTable finds catalogue name file bound (table_step catalogue name file columns there)
@@ -105,48 +101,48 @@ begins-table catalogue name file columns there = events-run_of (Fetch file ∷ [
 
 module _ (catalogue : CatalogDef) (name : Name) (file : List ℕ) (bound : Result (List Column) Fault) (environment : Environment) where
   -- the statement was refused before its file was fetched, or there was no memory
-  pub Table-refused : (fault : Fault) → Gives Memory bound (Err fault) → Stepped (DoesTable (finds_in environment.files.told) catalogue name file bound) catalogue (Err fault) environment environment
-  Table-refused fault (inl e) = Stepped-still (DoesTable (finds_in environment.files.told) catalogue name file bound) (Err fault) catalogue (Err fault) environment
-      (subst (λ r. DoesTable (finds_in environment.files.told) catalogue name file r (still (Err fault))) e refl) (inr refl)
+  pub Table-refused : (fault : Fault) → Gives Memory bound (Err fault) → Stepped (DoesTable (finds_in environment.files.contents) catalogue name file bound) catalogue (Err fault) environment environment
+  Table-refused fault (inl e) = Stepped-still (DoesTable (finds_in environment.files.contents) catalogue name file bound) (Err fault) catalogue (Err fault) environment
+      (subst (λ r. DoesTable (finds_in environment.files.contents) catalogue name file r (still (Err fault))) e refl) (inr refl)
   Table-refused fault (inr e) =
-      let some = some-table environment.files.told catalogue name file bound in
-      subst (λ r. Stepped (DoesTable (finds_in environment.files.told) catalogue name file bound) catalogue r environment environment) (sym (fault-at {A = List Column} fault Memory e))
-      (Stepped-no_memory (DoesTable (finds_in environment.files.told) catalogue name file bound) some.step catalogue environment some.does)
+      let some = some-table environment.files.contents catalogue name file bound in
+      subst (λ r. Stepped (DoesTable (finds_in environment.files.contents) catalogue name file bound) catalogue r environment environment) (sym (fault-at {A = List Column} fault Memory e))
+      (Stepped-no_memory (DoesTable (finds_in environment.files.contents) catalogue name file bound) some.step catalogue environment some.does)
 
   -- the file was no table, or wasn't fetched, or there was no memory
-  pub Table-unread : (columns : List Column) (fault : Fault) (files : Outside FilesTold) → Gives Memory bound (Ok columns) → FetchesFile file (Err fault) (IsReadTable file columns) environment.files files
-      → Stepped (DoesTable (finds_in environment.files.told) catalogue name file bound) catalogue (Err fault) environment (record environment { files = files })
+  pub Table-unread : (columns : List Column) (fault : Fault) (files : FilesState) → Gives Memory bound (Ok columns) → FetchesFile file (Err fault) (IsReadTable file columns) environment.files files
+      → Stepped (DoesTable (finds_in environment.files.contents) catalogue name file bound) catalogue (Err fault) environment (record environment { files = files })
   unfolding read_of outcome_of
   Table-unread columns fault files gives f = record {
     step = table_step catalogue name file columns f.there;
-    does = does-table (finds_in environment.files.told) catalogue name file bound columns f.there (bound-ok bound columns gives) f.is_told;
+    does = does-table (finds_in environment.files.contents) catalogue name file bound columns f.there (bound-ok bound columns gives) (found-before file _ _ environment.files files f);
     ran = Ran-unfetched environment files file fault (IsReadTable file columns) (run_of (table_step catalogue name file columns f.there)) [] f (begins-table catalogue name file columns f.there)
         (λ e. ap (λ o. run_of (step_of (Fetch file ∷ []) o)) (outcome-err catalogue name file columns f.there fault e));
     leaves = tt;
   }
 
   -- the table was read, and there was no memory for it
-  pub Table-no_memory : (columns : List Column) (table : Relation) (left : CatalogDef) (files : Outside FilesTold) → Gives Memory bound (Ok columns)
+  pub Table-no_memory : (columns : List Column) (table : Relation) (left : CatalogDef) (files : FilesState) → Gives Memory bound (Ok columns)
       → FetchesFile file (Ok table) (IsReadTable file columns) environment.files files
-      → Stepped (DoesTable (finds_in environment.files.told) catalogue name file bound) left (Err Memory) environment (record environment { files = files })
+      → Stepped (DoesTable (finds_in environment.files.contents) catalogue name file bound) left (Err Memory) environment (record environment { files = files })
   Table-no_memory columns table left files gives f = record {
     step = table_step catalogue name file columns f.there;
-    does = does-table (finds_in environment.files.told) catalogue name file bound columns f.there (bound-ok bound columns gives) f.is_told;
+    does = does-table (finds_in environment.files.contents) catalogue name file bound columns f.there (bound-ok bound columns gives) (found-before file _ _ environment.files files f);
     ran = Ran-no_memory (run_of (table_step catalogue name file columns f.there)) (Fetch file ∷ []) [] environment (record environment { files = files })
         (begins-table catalogue name file columns f.there) (fetched-ok environment files file table (IsReadTable file columns) f).has;
     leaves = tt;
   }
 
   -- it joined
-  pub Table-joins : (columns : List Column) (table : Relation) (left : CatalogDef) (files : Outside FilesTold) → Gives Memory bound (Ok columns)
+  pub Table-joins : (columns : List Column) (table : Relation) (left : CatalogDef) (files : FilesState) → Gives Memory bound (Ok columns)
       → FetchesFile file (Ok table) (IsReadTable file columns) environment.files files → left ≡ with_table name.text table catalogue
-      → Stepped (DoesTable (finds_in environment.files.told) catalogue name file bound) left (Ok tt) environment (record environment { files = files })
+      → Stepped (DoesTable (finds_in environment.files.contents) catalogue name file bound) left (Ok tt) environment (record environment { files = files })
   unfolding read_of outcome_of
   Table-joins columns table left files gives f joins =
       let read = fetched-ok environment files file table (IsReadTable file columns) f in
       let made = outcome-ok catalogue name file columns f.there table read.given in record {
         step = table_step catalogue name file columns f.there;
-        does = does-table (finds_in environment.files.told) catalogue name file bound columns f.there (bound-ok bound columns gives) f.is_told;
+        does = does-table (finds_in environment.files.contents) catalogue name file bound columns f.there (bound-ok bound columns gives) (found-before file _ _ environment.files files f);
         ran = subst (λ o. Ran (run_of (step_of (Fetch file ∷ []) o)) (Ok tt) environment (record environment { files = files })) (sym made)
             (Ran-all (record { events = Fetch file ∷ []; fault = None }) (Ok tt) environment (record environment { files = files }) read.has refl);
         leaves = made ∙ ap Ok (sym joins);

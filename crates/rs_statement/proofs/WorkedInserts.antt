@@ -19,7 +19,8 @@ use Rattle.rs_syntax.specs.declared.row.Cell.TheVariants as cell
 use Rattle.rs_syntax.specs.declared.row.RowSyn.{RowSyn}
 use Rattle.rs_syntax.specs.declared.select.Items.TheVariants as items
 use Rattle.rs_typing.specs.declared.fault.Why.TheVariants as why
-use Rattle.rs_events.specs.Events.{Fetch, Finds, Put, Score, found_in}
+use Rattle.rs_events.specs.Events.{Fetch, Put, Score}
+use Rattle.rs_outside.specs.Files.{Finds, found_in}
 use Rattle.rs_statement.specs.Faults.{only}
 use Rattle.rs_statement.specs.Session.{StatementsRun}
 use Rattle.rs_statement.specs.declared.evaluating.Evaluating.TheVariants.{Plainly}

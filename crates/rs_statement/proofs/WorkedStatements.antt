@@ -40,7 +40,8 @@ use Rattle.rs_statement.specs.declared.fault.SessionFault.TheVariants as session
 use Rattle.rs_statement.specs.declared.script_fault.ScriptFault.TheVariants as script
 use Rattle.rs_statement.specs.Faults.{only}
 use Rattle.rs_expr.specs.Scoring.{Answering}
-use Rattle.rs_events.specs.Events.{Fetch, Finds, Put, Score, found_in}
+use Rattle.rs_events.specs.Events.{Fetch, Put, Score}
+use Rattle.rs_outside.specs.Files.{Finds, found_in}
 use Rattle.rs_statement.specs.declared.evaluating.Evaluating.TheVariants.{Plainly, Planned}
 use Rattle.rs_statement.specs.declared.sampling.Sampling.TheVariants.{ByGuesses, ByScores}
 use Rattle.rs_statement.specs.Lines.{rank_lines}

@@ -29,7 +29,7 @@ use Rattle.rs_statement.specs.declared.fault.SessionFault.{SessionFault}
 use Rattle.rs_statement.specs.declared.fault.SessionFault.TheVariants.{NameTaken, Unknown, Full}
 use Rattle.rs_statement.specs.Lines.{rank_lines}
 use Rattle.rs_statement.specs.Planned.{asks_from, next_asks, plan_for}
-use Rattle.rs_events.specs.Events.{Finds}
+use Rattle.rs_outside.specs.Files.{Finds}
 use Rattle.rs_statement.specs.Steps.{Run, Step}
 use Rattle.rs_statement.specs.Sampled.{sample_step}
 use Rattle.rs_events.specs.Sequence.{RunOf, inquiry_step, lines_step, still, then_step}

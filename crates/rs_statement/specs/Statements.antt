@@ -44,7 +44,8 @@ use Rattle.rs_statement.specs.Lines.{rank_lines}
 use Rattle.rs_statement.specs.Faults.{or_index_fault}
 use Rattle.rs_statement.specs.Inserts.{insert_step}
 use Rattle.rs_statement.specs.Planned.{asks_in_all, cards_for, plan_for, planned_step}
-use Rattle.rs_events.specs.Events.{Fetch, Finds, calls_in}
+use Rattle.rs_events.specs.Events.{Fetch, calls_in}
+use Rattle.rs_outside.specs.Files.{Finds}
 use Rattle.rs_statement.specs.Sampled.{sample_step}
 use Rattle.rs_statement.specs.Steps.{Step}
 use Rattle.rs_events.specs.Sequence.{inquiry_step, lines_step, silent, still, then_step}

@@ -11,7 +11,7 @@ ghost use Rattle.rs_catalog.specs.Catalog.{room_for};
 ghost use Rattle.rs_catalog.specs.Indexes.{IsIndex};
 ghost use Rattle.rs_catalog.specs.declared.room.What.TheVariants as what;
 ghost use Rattle.rs_statement.specs.Parts.Steps.{FetchesFile, IsIndexNamed, IsPredicateNamed, IsReadTable, Leaves, Stepped};
-ghost use Rattle.rs_events.specs.Events.{finds_in};
+ghost use Rattle.rs_outside.specs.Files.{finds_in};
 ghost use Rattle.rs_statement.specs.Statements.{DoesTable, index_step, or_room_fault, predicate_outcome, refused_or, with_room};
 ghost use Rattle.rs_events.specs.Environment.{Environment};
 
@@ -95,7 +95,7 @@ pub fn create_table<F: Files, T: TableReader>(
 ) -> Result<(), Fault>
     requires { 1 ≤ length columns.now }
     ensures { (beside : Environment) → Stepped
-        (DoesTable (finds_in (F.state files.old).told) catalog.old name.now file.now (with_room catalog.old what.Table name.now (columns_of columns.now)))
+        (DoesTable (finds_in (F.state files.old).contents) catalog.old name.now file.now (with_room catalog.old what.Table name.now (columns_of columns.now)))
         catalog.new result (record beside { files = F.state files.old }) (record beside { files = F.state files.new }) }
 {
     let schema = table_schema(alloc, name, columns, catalog)?;

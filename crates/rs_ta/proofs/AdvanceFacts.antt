@@ -12,8 +12,10 @@ use Rattle.rs_rank.specs.Keys.{key_cmp}
 use Rattle.rs_ta.specs.declared.terms.ScanTerms.{ScanTerms}
 use Rattle.rs_ta.specs.Depths.{ScanInput, Sight, answers, answers_among, depth, row_of, rows_shown, sights, threshold, thresholds}
 use Rattle.rs_ta.specs.Lists.{AreRanked, ListsState, rows_in}
-use Rattle.rs_ta.specs.Rounds.{AreBetween, AreSeen, Advanced, CanAdvance, IsAtEnd, IsInput, SeenState, WentOn, input_with, is_reached}
+use Rattle.rs_ta.specs.Rounds.{AreBetween, AreSeen, Advanced, CanAdvance, IsAtEnd, IsInput, SeenState, WasRefused, WentOn, input_with, is_reached}
+use Rattle.rs_ta.specs.Scans.{AreAccessedWithin}
 use Rattle.rs_ta.proofs.DepthFacts.{IsPast, answers-ranked, depth-most, first-depth, length-thresholds, next-answer, not_reached-depth, number_key, ranked, reached-depth, thresholds-at}
+use Rattle.rs_ta.proofs.ExtensionFacts.{accessed-wider}
 use Rattle.rs_ta.proofs.RoundFacts.{same-input}
 use Rattle.rs_ta.proofs.SightFacts.{In-shown, In-shown-back, rows-sights}
 
@@ -149,6 +151,7 @@ module _ (i : ScanInput) (test_rows : ℕ) (input : IsInput i test_rows) where
 pub record Rounding (i : ScanInput) (old rows : SeenState) (last : Option Key) (state : ListsState) : Type 0 where
   pub lists_are : state.lists ≡ i.lists
   pub given_are : rows.given ≡ old.given
+  pub rise : old.rounds ≤ rows.rounds
   pub can : CanAdvance i rows last state
 
 module _ (terms : ScanTerms) (first : ListsState) (truth : ℕ → Bool) (test_rows : ℕ) (input : IsInput (input_with terms first truth) test_rows) where
@@ -169,9 +172,12 @@ module _ (terms : ScanTerms) (first : ListsState) (truth : ℕ → Bool) (test_r
       WentOn (input_with terms state truth) rows new new_state key → Rounding over old new (Some key) new_state
   rounding-step old rows new last state new_state key at e lists went =
       let went_on : WentOn over rows new new_state key = subst (λ j. WentOn j rows new new_state key) (sym (again state at.lists_are)) went in
+      let rounds = went_on.rounds_are in
+      let rise = at.rise in
       record {
         lists_are = lists ∙ at.lists_are;
         given_are = went_on.given_are ∙ at.given_are;
+        rise = omega arith;
         can = can-go_on over test_rows input rows new last state new_state key at.can e went_on;
       }
 
@@ -191,3 +197,12 @@ module _ (terms : ScanTerms) (first : ListsState) (truth : ℕ → Bool) (test_r
   pub rounding-end : (old rows new : SeenState) (last : Option Key) (state new_state : ListsState) → Rounding over old rows last state → IsAtEnd (input_with terms state truth) rows new new_state → Advanced over old new last new_state
   rounding-end old rows new last state new_state at end =
       advanced-end over test_rows input old rows new last state new_state at.given_are at.can (subst (λ j. IsAtEnd j rows new new_state) (sym (again state at.lists_are)) end)
+
+  -- or a round was refused
+  pub rounding-refused : (old rows : SeenState) (last : Option Key) (state new_state : ListsState) → Rounding over old rows last state → is_reached last rows.held ≡ false →
+      WasRefused (input_with terms state truth) rows.rounds new_state → AreAccessedWithin over old.rounds (depth over (suc old.given)) new_state
+  rounding-refused old rows last state new_state at e was =
+      let refused : WasRefused over rows.rounds new_state = subst (λ j. WasRefused j rows.rounds new_state) (sym (again state at.lists_are)) was in
+      let due = more-due over test_rows input rows last state at.can e refused.inside in
+      accessed-wider over new_state old.rounds rows.rounds (suc rows.rounds) (depth over (suc old.given))
+      at.rise (subst (λ n. suc rows.rounds ≤ depth over (suc n)) at.given_are due) refused.within

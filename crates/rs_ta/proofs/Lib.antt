@@ -4,10 +4,12 @@ pub mod BlockTestFacts
 pub mod CountFacts
 pub mod DepthFacts
 pub mod EligibleFacts
+pub mod ExtensionFacts
 pub mod IndexListFacts
 pub mod LookupFacts
 pub mod MemFacts
 pub mod NumberFacts
+pub mod OnceFacts
 pub mod PressFacts
 pub mod RankedFacts
 pub mod RoundFacts
@@ -17,5 +19,6 @@ pub mod SeenFacts
 pub mod SightFacts
 pub mod SumFacts
 pub mod TermFacts
+pub mod ToldFacts
 pub mod UnaccessedFacts
 pub mod Worked

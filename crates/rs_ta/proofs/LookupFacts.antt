@@ -8,9 +8,10 @@ use Rattle.rs_order.proofs.EachFacts.{each-get_or}
 use Rattle.rs_rank.specs.declared.scored_row.ScoredRow.{ScoredRow}
 use Rattle.rs_rank.specs.declared.weights.Weights.{Weights}
 use Rattle.rs_rank.specs.Weights.{IsWeights}
-use Rattle.rs_ta.specs.Depths.{weighted_sum}
-use Rattle.rs_ta.specs.Lists.{AreSame, IsList, ListsState, list_at, score_of}
+use Rattle.rs_ta.specs.Depths.{lookups_of, weighted_sum}
+use Rattle.rs_ta.specs.Lists.{AreSame, AreTold, IsList, ListsState, list_at, score_of}
 use Rattle.rs_ta.specs.Lookups.{AreRaisedBut, IsRaisedUnless}
+use Rattle.rs_ta.proofs.ToldFacts.{lookup_unless, lookups_of-next, told-none, told-then}
 
 -- the product of the first weight and score, and the rest
 pub weighted_sum-more : (f : List ScoredRow → ℕ) (weights : List ℕ) (lists : List (List ScoredRow)) (place : ℕ) → place < length weights → place < length lists →
@@ -70,6 +71,7 @@ pub record Looking (weights : List ℕ) (shown row : ℕ) (old state : ListsStat
   pub limit : sum ≤ place * 4294967295000000
   pub counts : (number : ℕ) → IsList old.lists number → state.random_count number ≡ cond (leb number place && not (eqb number shown)) (raised (old.random_count number)) (old.random_count number)
   pub others : AreSame old.lists old.sorted_count state.sorted_count
+  pub told : AreTold (lookups_of place (record { row = row; list = shown })) old.told state.told
 
 pub looking-start : (weights : List ℕ) (shown row : ℕ) (old : ListsState) → Looking weights shown row old old 0 0
 looking-start weights shown row old = record {
@@ -81,14 +83,16 @@ looking-start weights shown row old = record {
       let low : 0 < number = omega arith in
       sym (ap (λ b. cond (b && not (eqb number shown)) (raised (old.random_count number)) (old.random_count number)) (lt-leb number 0 low));
   others = λ number is. refl;
+  told = told-none old.told;
 }
 
 -- one list more
 pub looking-step : (weights : Weights) (shown row : ℕ) (old state new : ListsState) (place sum score product : ℕ) → IsWeights weights → Looking weights.weight shown row old state place sum → place < length old.lists → length old.lists ≤ 8 →
     score ≤ 4294967295 → score ≡ score_of row (list_at state.lists (place + 1)) → product ≡ get_or weights.weight place 0 * score →
     new.lists ≡ state.lists → IsRaisedUnless state.lists (place + 1) shown state.random_count new.random_count → AreSame state.lists state.sorted_count new.sorted_count →
+    AreTold (lookup_unless row shown (place + 1)) state.told new.told →
     Looking weights.weight shown row old new (place + 1) (sum + product)
-looking-step weights shown row old state new place sum score product limits at within most low score_is product_is lists raised_are same =
+looking-step weights shown row old state new place sum score product limits at within most low score_is product_is lists raised_are same told =
     let count = limits.weight_count in
     let score_at : score ≡ score_of row (get_or old.lists place []) = score_is ∙ ap (λ ls. score_of row (list_at ls (place + 1))) at.lists_are ∙ ap (score_of row) (list_at-place old.lists place) in
     let product_at : product ≡ get_or weights.weight place 0 * score_of row (get_or old.lists place []) = product_is ∙ ap (λ n. get_or weights.weight place 0 * n) score_at in
@@ -103,6 +107,8 @@ looking-step weights shown row old state new place sum score product limits at w
           counted-step number place shown (old.random_count number) (state.random_count number) (new.random_count number) (at.counts number is)
           (raised_are number (subst (λ ls. IsList ls number) (sym at.lists_are) is));
       others = λ number is. same number (subst (λ ls. IsList ls number) (sym at.lists_are) is) ∙ at.others number is;
+      told = subst (λ made. AreTold made old.told new.told) (sym (lookups_of-next row shown place))
+          (told-then (lookups_of place (record { row = row; list = shown })) (lookup_unless row shown (place + 1)) old.told state.told new.told at.told told);
     }
 
 cond-not : (b : Bool) (x y : ℕ) → cond (not b) x y ≡ cond b y x
@@ -123,3 +129,6 @@ looking-counts weights shown row old state place sum at all = λ number is.
     at.counts number is
     ∙ ap (λ b. cond (b && not (eqb number shown)) (raised (old.random_count number)) (old.random_count number)) (le-leb number place low)
     ∙ cond-not (eqb number shown) (raised (old.random_count number)) (old.random_count number)
+
+pub looking-told : (weights : List ℕ) (shown row : ℕ) (old state : ListsState) (place sum : ℕ) → Looking weights shown row old state place sum → place ≡ length old.lists → AreTold (lookups_of (length old.lists) (record { row = row; list = shown })) old.told state.told
+looking-told weights shown row old state place sum at all = subst (λ n. AreTold (lookups_of n (record { row = row; list = shown })) old.told state.told) all at.told

@@ -1,6 +1,6 @@
 -- A round, list by list.
-use Rattle.std.proofs.Common.{◌≡◌, ℕ, zero, suc, ◌+◌, ◌-◌, ◌*◌, ◌^◌, ◌<◌, ◌≤◌, Bool, cond, eqb, leb, max, List, [], ◌∷◌, length, get_or, drop, map, Option, Some, None, refl, sym, ◌∙◌, ap, subst, inl, inr, arith}
-use Rattle.std.specs.Prelude.{slice_get}
+use Rattle.std.proofs.Common.{◌≡◌, ℕ, zero, suc, ◌+◌, ◌-◌, ◌*◌, ◌^◌, ◌<◌, ◌≤◌, Bool, true, false, cond, eqb, leb, max, List, [], ◌∷◌, length, get_or, drop, map, Option, Some, None, refl, sym, ◌∙◌, ap, subst, inl, inr, arith}
+use Rattle.std.specs.Prelude.{IfSome, slice_get}
 use Rattle.std.proofs.lemmas.Bool.{cases_eq, cases_order, eq-eqb, le-leb, lt-leb, ne_eqb}
 use Rattle.std.proofs.lemmas.List.{drop_all, drop_more}
 use Rattle.std.proofs.lemmas.Option.{get_or_from_slice_get, slice_get_within}
@@ -10,10 +10,11 @@ use Rattle.rs_order.proofs.EachFacts.{each-get_or}
 use Rattle.rs_rank.specs.declared.key.Key.{Key}
 use Rattle.rs_rank.specs.declared.scored_row.ScoredRow.{ScoredRow}
 use Rattle.rs_ta.specs.declared.terms.ScanTerms.{ScanTerms}
-use Rattle.rs_ta.specs.Depths.{ScanInput, Sight, entry_at, greatest, ids_at, lookups, sights, weighted_sum}
+use Rattle.rs_ta.specs.Depths.{ScanInput, Sight, entry_at, greatest, ids_at, looked_up, sights, weighted_sum}
 use Rattle.rs_ta.specs.Lists.{AreRanked, AreSame, IsList, IsRaisedAt, IsRanked, ListsState, list_at, next_entry, pair_of, rows_in}
-use Rattle.rs_ta.specs.Rounds.{AreBetween, AreSeen, CanSee, IsAtEnd, IsInput, Saw, SeenState, WentOn, input_with, shown_by}
-use Rattle.rs_ta.specs.Scans.{AreLookedUp}
+use Rattle.rs_ta.specs.Rounds.{AreBetween, AreSeen, CanSee, IsAtEnd, IsInput, Saw, SeenState, WasRefused, WentOn, input_with, shown_by}
+use Rattle.rs_ta.specs.Scans.{AreLookedUp, AreLookedUpWithin}
+use Rattle.rs_ta.proofs.ExtensionFacts.{before-extends, round-extends, within-wider}
 use Rattle.rs_ta.proofs.LookupFacts.{list_at-place, share-low, weighted_sum-all, weighted_sum-more}
 use Rattle.rs_ta.proofs.SightFacts.{shown_by-all, shown_by-none}
 
@@ -27,6 +28,14 @@ row_at place list = (entry_at place list).row
 -- while the lists stay, a scan is over the same
 pub same-input : (terms : ScanTerms) (first state : ListsState) (truth : ℕ → Bool) → state.lists ≡ first.lists → input_with terms first truth ≡ input_with terms state truth
 same-input terms first state truth same = ap (λ (lists : List (List ScoredRow)). record (input_with terms first truth) { lists = lists }) (sym same)
+
+-- nothing more was looked up
+looked-same : (i : ScanInput) (state asked : ListsState) (shown : List Sight) → state.lists ≡ i.lists → AreSame state.lists state.random_count asked.random_count → asked.told ≡ state.told →
+    AreLookedUp i state shown → AreLookedUp i asked shown
+looked-same i state asked shown lists same told looked = record {
+  counts = λ number is. same number (subst (λ ls. IsList ls number) (sym lists) is) ∙ looked.counts number is;
+  told = subst (λ t. IfSome t (λ told. told ≡ looked_up (length i.lists) shown)) (sym told) looked.told;
+}
 
 -- where a round stands behind some lists: of the rows, of what the lists were asked, and of the sum and the greatest row so far
 pub record Going (i : ScanInput) (old rows : SeenState) (state : ListsState) (place bound row : ℕ) : Type 0 where
@@ -92,6 +101,30 @@ none-past [] n e = omega arith
 none-past (x ∷ xs) zero e = cc
 none-past (x ∷ xs) (suc n) e = let le = none-past xs n e in omega arith
 
+-- each of the first lists is counted
+counted-more : (number place rounds mid new : ℕ) → rounds < 2 ^ 32 → mid ≡ cond (leb number place) (suc rounds) rounds → new ≡ cond (eqb number (place + 1)) (raised mid) mid → new ≡ cond (leb number (place + 1)) (suc rounds) rounds
+counted-more number place rounds mid new small m n = elim (cases_order number (place + 1)) [
+  | inl same ↦
+      let low : place < number = omega arith in
+      let high : number ≤ place + 1 = omega arith in
+      let mid_is : mid ≡ rounds = m ∙ ap (λ b. cond b (suc rounds) rounds) (lt-leb number place low) in
+      let up : raised rounds ≡ suc rounds = omega arith in
+      n
+      ∙ ap (λ b. cond b (raised mid) mid) (eq-eqb number (place + 1) same)
+      ∙ ap raised mid_is
+      ∙ up
+      ∙ sym (ap (λ b. cond b (suc rounds) rounds) (le-leb number (place + 1) high))
+  | inr other ↦
+      let differs : number ≡ place + 1 → ⊥ = λ e. elim other [ inl less ↦ omega arith | inr more ↦ omega arith ] in
+      n
+      ∙ ap (λ b. cond b (raised mid) mid) (ne_eqb number (place + 1) differs)
+      ∙ m
+      ∙ ap (λ b. cond b (suc rounds) rounds) (elim other [
+        | inl less ↦ let low : number ≤ place = omega arith in let high : number ≤ place + 1 = omega arith in le-leb number place low ∙ sym (le-leb number (place + 1) high)
+        | inr more ↦ let low : place < number = omega arith in lt-leb number place low ∙ sym (lt-leb number (place + 1) more)
+      ])
+]
+
 module _ (i : ScanInput) (test_rows : ℕ) (input : IsInput i test_rows) (old rows : SeenState) (state : ListsState) (place bound row : ℕ) (at : Going i old rows state place bound row) (within : place < length i.lists) where
   -- the entry that a sorted access asks for
   asked_entry : slice_get (list_at state.lists (place + 1)) (state.sorted_count (place + 1)) ≡ slice_get (list_at i.lists (place + 1)) old.rounds
@@ -124,9 +157,9 @@ module _ (i : ScanInput) (test_rows : ℕ) (input : IsInput i test_rows) (old ro
       get_or_from_slice_get (list_at i.lists (place + 1)) old.rounds (record { score = score; row = shown }) (record { score = 0; row = 0 }) (going-entry score shown e)
 
   -- so its row can be seen
-  pub going-can : (score shown : ℕ) (asked : ListsState) → next_entry state (place + 1) ≡ Some (score, shown) → AreSame state.lists state.random_count asked.random_count →
+  pub going-can : (score shown : ℕ) (asked : ListsState) → next_entry state (place + 1) ≡ Some (score, shown) → AreSame state.lists state.random_count asked.random_count → asked.told ≡ state.told →
       CanSee i test_rows (place + 1) shown score rows asked
-  going-can score shown asked e same =
+  going-can score shown asked e same told =
       let one : place + 1 - 1 ≡ place = omega arith in
       let by : shown_by i.lists old.rounds place ≡ shown_by i.lists rows.rounds (place + 1 - 1) =
       ap (λ n. shown_by i.lists n place) (sym at.rounds_are) ∙ ap (shown_by i.lists rows.rounds) (sym one) in
@@ -136,8 +169,38 @@ module _ (i : ScanInput) (test_rows : ℕ) (input : IsInput i test_rows) (old ro
         place = subst (λ n. n < rows_in i.lists) (sym at.rounds_are) (going-inside score shown e);
         shows = ap (λ n. entry_at n (list_at i.lists (place + 1))) at.rounds_are ∙ going-shows score shown e;
         seen = subst (λ shown. AreSeen i shown rows) by at.seen;
-        looked = subst (AreLookedUp i asked) by (λ number is. same number (subst (λ ls. IsList ls number) (sym at.lists_are) is) ∙ at.looked number is);
+        looked = subst (AreLookedUp i asked) by (looked-same i state asked (shown_by i.lists old.rounds place) at.lists_are same told at.looked);
       }
+
+  -- one list more is counted
+  going-counted : (score shown : ℕ) (asked new_state : ListsState) → next_entry state (place + 1) ≡ Some (score, shown) →
+      asked.lists ≡ state.lists → IsRaisedAt state.lists (place + 1) state.sorted_count asked.sorted_count → AreSame asked.lists asked.sorted_count new_state.sorted_count →
+      (number : ℕ) → IsList i.lists number → new_state.sorted_count number ≡ cond (leb number (place + 1)) (suc old.rounds) old.rounds
+  going-counted score shown asked new_state e asked_lists raised_are same number is =
+      let in_state : IsList state.lists number = subst (λ ls. IsList ls number) (sym at.lists_are) is in
+      let in_asked : IsList asked.lists number = subst (λ ls. IsList ls number) (sym asked_lists) in_state in
+      same number in_asked
+      ∙ counted-more number place old.rounds (state.sorted_count number) (asked.sorted_count number) (let few = input.ranked.few in let inside = going-inside score shown e in omega arith) (at.counted number is) (raised_are number in_state)
+
+  -- a round that was refused at this list
+  pub going-refused : (score shown : ℕ) (asked new_state : ListsState) → next_entry state (place + 1) ≡ Some (score, shown) →
+      asked.lists ≡ state.lists → IsRaisedAt state.lists (place + 1) state.sorted_count asked.sorted_count → AreSame asked.lists asked.sorted_count new_state.sorted_count →
+      AreLookedUpWithin i new_state (shown_by i.lists rows.rounds (place + 1 - 1)) (shown_by i.lists rows.rounds (place + 1)) → WasRefused i old.rounds new_state
+  going-refused score shown asked new_state e asked_lists raised_are same looked = record {
+    inside = going-inside score shown e;
+    within = record {
+      sorted = λ number is.
+          one-or-none (leb number (place + 1)) (new_state.sorted_count number) old.rounds (going-counted score shown asked new_state e asked_lists raised_are same number is);
+      random = within-wider i new_state
+          (sights i.lists old.rounds) (shown_by i.lists old.rounds (place + 1 - 1)) (shown_by i.lists old.rounds (place + 1)) (sights i.lists (suc old.rounds))
+          (before-extends i.lists old.rounds (place + 1 - 1)) (round-extends i.lists old.rounds (place + 1))
+          (subst (λ n. AreLookedUpWithin i new_state (shown_by i.lists n (place + 1 - 1)) (shown_by i.lists n (place + 1))) at.rounds_are looked);
+    };
+  }
+    where
+      one-or-none : (b : Bool) (count rounds : ℕ) → count ≡ cond b (suc rounds) rounds → (rounds ≤ count) × (count ≤ suc rounds)
+      one-or-none true count rounds e = (omega arith, omega arith)
+      one-or-none false count rounds e = (omega arith, omega arith)
 
   -- and then the round stands behind one list more
   pub going-on : (score shown product : ℕ) (asked new_state : ListsState) (new : SeenState) → next_entry state (place + 1) ≡ Some (score, shown) → score ≤ 4294967295 →
@@ -165,39 +228,12 @@ module _ (i : ScanInput) (test_rows : ℕ) (input : IsInput i test_rows) (old ro
         looked = subst (λ n. AreLookedUp i new_state (shown_by i.lists n (place + 1))) at.rounds_are saw.looked;
         rounds_are = rounds;
         given_are = saw.given_are ∙ at.given_are;
-        counted = λ number is.
-            let in_state : IsList state.lists number = subst (λ ls. IsList ls number) (sym at.lists_are) is in
-            let in_asked : IsList asked.lists number = subst (λ ls. IsList ls number) (sym asked_lists) in_state in
-            same number in_asked
-            ∙ counted-more number place old.rounds (state.sorted_count number) (asked.sorted_count number) (let few = input.ranked.few in let inside = going-inside score shown e in omega arith) (at.counted number is) (raised_are number in_state);
+        counted = going-counted score shown asked new_state e asked_lists raised_are same;
         bound_is = omega arith;
         limit = omega arith;
         row_is = greatest-more old.rounds i.lists place row shown within row_is ∙ at.row_is;
       }
     where
-      counted-more : (number place rounds mid new : ℕ) → rounds < 2 ^ 32 → mid ≡ cond (leb number place) (suc rounds) rounds → new ≡ cond (eqb number (place + 1)) (raised mid) mid → new ≡ cond (leb number (place + 1)) (suc rounds) rounds
-      counted-more number place rounds mid new small m n = elim (cases_order number (place + 1)) [
-        | inl same ↦
-            let low : place < number = omega arith in
-            let high : number ≤ place + 1 = omega arith in
-            let mid_is : mid ≡ rounds = m ∙ ap (λ b. cond b (suc rounds) rounds) (lt-leb number place low) in
-            let up : raised rounds ≡ suc rounds = omega arith in
-            n
-            ∙ ap (λ b. cond b (raised mid) mid) (eq-eqb number (place + 1) same)
-            ∙ ap raised mid_is
-            ∙ up
-            ∙ sym (ap (λ b. cond b (suc rounds) rounds) (le-leb number (place + 1) high))
-        | inr other ↦
-            let differs : number ≡ place + 1 → ⊥ = λ e. elim other [ inl less ↦ omega arith | inr more ↦ omega arith ] in
-            n
-            ∙ ap (λ b. cond b (raised mid) mid) (ne_eqb number (place + 1) differs)
-            ∙ m
-            ∙ ap (λ b. cond b (suc rounds) rounds) (elim other [
-              | inl less ↦ let low : number ≤ place = omega arith in let high : number ≤ place + 1 = omega arith in le-leb number place low ∙ sym (le-leb number (place + 1) high)
-              | inr more ↦ let low : place < number = omega arith in lt-leb number place low ∙ sym (lt-leb number (place + 1) more)
-            ])
-      ]
-
       greatest-more : (rounds : ℕ) (lists : List (List ScoredRow)) (place row shown : ℕ) → place < length lists → row_at rounds (get_or lists place []) ≡ shown →
           max (max shown row) (greatest (map (row_at rounds) (drop (place + 1) lists))) ≡ max row (greatest (map (row_at rounds) (drop place lists)))
       greatest-more rounds lists place row shown within is =
@@ -207,8 +243,8 @@ module _ (i : ScanInput) (test_rows : ℕ) (input : IsInput i test_rows) (old ro
 
 -- the end of the lists
 pub going-at_end : (i : ScanInput) (test_rows : ℕ) → IsInput i test_rows → (old rows : SeenState) (state asked : ListsState) (place bound row : ℕ) → Going i old rows state place bound row → place < length i.lists → old.rounds ≤ rows_in i.lists → next_entry state (place + 1) ≡ None →
-    AreSame state.lists state.sorted_count asked.sorted_count → AreSame state.lists state.random_count asked.random_count → IsAtEnd i old rows asked
-going-at_end i test_rows input old rows state asked place bound row at within most e same_sorted same_random =
+    AreSame state.lists state.sorted_count asked.sorted_count → AreSame state.lists state.random_count asked.random_count → asked.told ≡ state.told → IsAtEnd i old rows asked
+going-at_end i test_rows input old rows state asked place bound row at within most e same_sorted same_random same_told =
     let past = going-end i test_rows input old rows state place bound row at within e in
     let first : place ≡ 0 = elim (cases_eq place 0) [
       | inl none ↦ none
@@ -229,7 +265,7 @@ going-at_end i test_rows input old rows state asked place bound row at within mo
             ∙ at.counted number is
             ∙ ap (λ b. cond b (suc old.rounds) old.rounds) (lt-leb number place low)
             ∙ sym at.rounds_are;
-        looked = λ number is. same_random number (subst (λ ls. IsList ls number) (sym at.lists_are) is) ∙ at.looked number is ∙ ap (λ shown. lookups shown number) by;
+        looked = subst (AreLookedUp i asked) by (looked-same i state asked (shown_by i.lists old.rounds place) at.lists_are same_random same_told at.looked);
         within = subst (λ n. n ≤ rows_in i.lists) (sym at.rounds_are) most;
       };
     }

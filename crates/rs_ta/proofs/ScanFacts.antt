@@ -22,7 +22,7 @@ use Rattle.rs_ta.specs.declared.terms.ScanTerms.{ScanTerms}
 use Rattle.rs_ta.specs.Depths.{ScanInput, answers, answers_among, depth, row_key, row_of, rows_shown, sights, thresholds}
 use Rattle.rs_ta.specs.Lists.{AreRanked, ListsState, rows_in}
 use Rattle.rs_ta.specs.Rounds.{AreSeen, Advanced, CanAdvance, IsInput, SeenState, input_with}
-use Rattle.rs_ta.specs.Scans.{AreAccessed, AreLookedUp, HaveWeights, IsEntry, Scan, Stands, input_of, scan_after, scan_at}
+use Rattle.rs_ta.specs.Scans.{AreAccessed, AreAccessedWithin, AreLookedUp, HaveWeights, IsEntry, Scan, Stands, asks_of, input_of, scan_after, scan_at}
 use Rattle.rs_ta.proofs.AdvanceFacts.{advanced-answer, past-sights}
 use Rattle.rs_ta.proofs.DepthFacts.{beyond-answers, depth-more, depth-most}
 use Rattle.rs_ta.proofs.NumberFacts.{length-numbers_from}
@@ -250,6 +250,14 @@ module _ (terms : ScanTerms) (rows : SeenState) (last : Option Key) (ended spent
 
   pub next-can : CanAdvance (input_with terms state truth) rows last state
   next-can = stands-can terms state truth test_rows next-input rows last ended spent next-stands
+
+  -- a call that was refused
+  pub next-refused : (new_state : ListsState) → AreAccessedWithin (input_with terms state truth) rows.rounds (depth (input_with terms state truth) (suc rows.given)) new_state →
+      AreAccessedWithin (input_of scan state truth) (depth (input_of scan state truth) (asks_of scan)) (depth (input_of scan state truth) (suc scan.given)) new_state
+  next-refused new_state within =
+      subst (λ (s : Scan). AreAccessedWithin (input_of s state truth) (depth (input_of s state truth) (asks_of s)) (depth (input_of s state truth) (suc s.given)) new_state) view
+      (subst (λ n. AreAccessedWithin (input_with terms state truth) n (depth (input_with terms state truth) (suc rows.given)) new_state)
+      (ap (λ (s : Scan). s.rounds) next-stands.scan_is) within)
 
   module _ (new : SeenState) (new_last : Option Key) (new_state : ListsState) (advanced : Advanced (input_with terms state truth) rows new new_last new_state) where
     pub next-few : new.given + 1 < 2 ^ 64

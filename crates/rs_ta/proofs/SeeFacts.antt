@@ -1,5 +1,5 @@
 -- What a sight does: a row that was shown already changes nothing; a new one is noted, and put in where the test holds for it.
-use Rattle.std.proofs.Common.{◌≡◌, ℕ, zero, suc, ◌-◌, ◌^◌, ◌<◌, ◌≤◌, ◌++◌, Bool, true, false, cond, not, ◌||◌, eqb, List, [], ◌∷◌, take, drop, map, Some, refl, sym, ◌∙◌, ap, subst, inl, inr, arith}
+use Rattle.std.proofs.Common.{◌≡◌, ℕ, zero, suc, ◌-◌, ◌^◌, ◌<◌, ◌≤◌, ◌++◌, Bool, true, false, cond, not, ◌||◌, eqb, List, [], ◌∷◌, length, take, drop, map, Some, refl, sym, ◌∙◌, ap, subst, inl, inr, arith}
 use Rattle.std.specs.Prelude.{slice_get}
 use Rattle.std.proofs.lemmas.Bool.{false_from_ne_true, false≢true, true≢false}
 use Rattle.std.proofs.lemmas.List.{append-nil, length-map, map-append, take-map}
@@ -27,16 +27,18 @@ use Rattle.rs_rank.specs.declared.scored_row.ScoredRow.{ScoredRow}
 use Rattle.rs_rank.specs.Ids.{AreOtherIds}
 use Rattle.rs_rank.specs.Keys.{key_cmp}
 use Rattle.rs_rank.proofs.OrderFacts.{key_cmp-total}
-use Rattle.rs_ta.specs.Depths.{ScanInput, Sight, answers_among, entry_at, first_sights, ids_at, lookups, row_key, row_of, rows_shown, sights, sights_from}
-use Rattle.rs_ta.specs.Lists.{AreRanked, IsRanked, IsRow, ListsState, list_at, rows_in, score_of}
+use Rattle.rs_ta.specs.Depths.{ScanInput, Sight, answers_among, entry_at, first_sights, ids_at, looked_up, lookups, lookups_of, row_key, row_of, rows_shown, sights, sights_from}
+use Rattle.rs_ta.specs.Lists.{AreRanked, AreTold, IsRanked, IsRow, ListsState, list_at, rows_in, score_of}
 use Rattle.rs_ta.specs.Lookups.{AreRaisedBut}
 use Rattle.rs_ta.specs.Rounds.{AreSeen, CanSee, Saw, SeenState, has_row, row_of_key, shown_by}
-use Rattle.rs_ta.specs.Scans.{AreLookedUp}
+use Rattle.rs_ta.specs.Scans.{AreLookedUp, AreLookedUpWithin, Begins}
 use Rattle.rs_ta.proofs.DepthFacts.{IsPast}
+use Rattle.rs_ta.proofs.ExtensionFacts.{begins-itself, within-exact}
 use Rattle.rs_ta.proofs.NumberFacts.{few-apart}
 use Rattle.rs_ta.proofs.PressFacts.{ids-row}
 use Rattle.rs_ta.proofs.RankedFacts.{ranked-row, score_of-at}
 use Rattle.rs_ta.proofs.SightFacts.{In-shown, In-shown-back, apart-shown, lookups-new, lookups-old, row_shown, rows-sights, rows-sights_from, rows_shown-new, rows_shown-old, shown_by-more}
+use Rattle.rs_ta.proofs.ToldFacts.{looked_up-new, looked_up-old, told-behind, told-same}
 
 abbrev same_row : ℕ → ℕ
 same_row row = row
@@ -252,16 +254,25 @@ module _ (i : ScanInput) (test_rows list row score : ℕ) (old : SeenState) (sta
 
   -- the counts of random accesses
   looked-old : In row (rows_shown before) → AreLookedUp i state after
-  looked-old h = λ number is. can.looked number is ∙ sym (ap (λ shown. lookups shown number) after-is ∙ lookups-old before sight number h)
+  looked-old h = record {
+    counts = λ number is. can.looked.counts number is ∙ sym (ap (λ shown. lookups shown number) after-is ∙ lookups-old before sight number h);
+    told = told-same (looked_up (length i.lists) before) (looked_up (length i.lists) after) state.told
+        (sym (ap (looked_up (length i.lists)) after-is ∙ looked_up-old (length i.lists) before sight h)) can.looked.told;
+  }
 
-  looked-new : (In row (rows_shown before) → ⊥) → (more : ListsState) → AreRaisedBut i.lists list state.random_count more.random_count → AreLookedUp i more after
-  looked-new none more raised_are = λ number is.
-      let few = lookups-few i old.rounds before is_past number in
-      let rows = can.input.ranked.few in
-      raised_are number is
-      ∙ ap (λ n. cond (eqb number list) n (raised n)) (can.looked number is)
-      ∙ ap (λ n. cond (eqb number list) (lookups before number) n) (raised-suc (lookups before number) (omega arith))
-      ∙ sym (ap (λ shown. lookups shown number) after-is ∙ lookups-new before sight number none)
+  looked-new : (In row (rows_shown before) → ⊥) → (more : ListsState) → AreRaisedBut i.lists list state.random_count more.random_count → AreTold (lookups_of (length i.lists) sight) state.told more.told → AreLookedUp i more after
+  looked-new none more raised_are told = record {
+    counts = λ number is.
+        let few = lookups-few i old.rounds before is_past number in
+        let rows = can.input.ranked.few in
+        raised_are number is
+        ∙ ap (λ n. cond (eqb number list) n (raised n)) (can.looked.counts number is)
+        ∙ ap (λ n. cond (eqb number list) (lookups before number) n) (raised-suc (lookups before number) (omega arith))
+        ∙ sym (ap (λ shown. lookups shown number) after-is ∙ lookups-new before sight number none);
+    told = told-same (looked_up (length i.lists) before ++ lookups_of (length i.lists) sight) (looked_up (length i.lists) after) more.told
+        (sym (ap (looked_up (length i.lists)) after-is ∙ looked_up-new (length i.lists) before sight none))
+        (told-behind (looked_up (length i.lists) before) (lookups_of (length i.lists) sight) state.told more.told told can.looked.told);
+  }
 
   -- a row that was shown already
   pub saw-old : (new : SeenState) → new ≡ old → has_row row old.seen ≡ true → Saw i list old new state
@@ -274,17 +285,28 @@ module _ (i : ScanInput) (test_rows list row score : ℕ) (old : SeenState) (sta
         given_are = ap (λ (s : SeenState). s.given) same;
       }
 
+  -- a call that was refused looked the row up in no list, or in all other lists
+  one-more : Begins before after
+  one-more = record { rest = sight ∷ []; is = after-is }
+
+  pub refused-before : AreLookedUpWithin i state before after
+  refused-before = within-exact i state before before after (begins-itself before) one-more can.looked
+
+  pub refused-behind : has_row row old.seen ≡ false → (more : ListsState) → AreRaisedBut i.lists list state.random_count more.random_count →
+      AreTold (lookups_of (length i.lists) sight) state.told more.told → AreLookedUpWithin i more before after
+  refused-behind has more raised_are told = within-exact i more before after after one-more (begins-itself after) (looked-new (see-new has) more raised_are told)
+
   rows-new : (In row (rows_shown before) → ⊥) → rows_shown after ≡ rows_shown before ++ row ∷ []
   rows-new none = ap rows_shown after-is ∙ rows_shown-new before sight none
 
   -- a new row for which the test doesn't hold
   pub saw-noted : (new : SeenState) (more : ListsState) → has_row row old.seen ≡ false → new ≡ record old { seen = insert_key nat_cmp old.seen row } → i.holds row ≡ false →
-      AreRaisedBut i.lists list state.random_count more.random_count → Saw i list old new more
-  saw-noted new more has is fails raised_are =
+      AreRaisedBut i.lists list state.random_count more.random_count → AreTold (lookups_of (length i.lists) sight) state.told more.told → Saw i list old new more
+  saw-noted new more has is fails raised_are told =
       let none = see-new has in record {
         seen =
             AreSeen-noted i before after row old new (rows-new none) none fails can.seen (ap (λ (s : SeenState). s.given) is) (ap (λ (s : SeenState). s.seen) is) (ap (λ (s : SeenState). s.held) is);
-        looked = looked-new none more raised_are;
+        looked = looked-new none more raised_are told;
         rounds_are = ap (λ (s : SeenState). s.rounds) is;
         given_are = ap (λ (s : SeenState). s.given) is;
       }
@@ -292,15 +314,15 @@ module _ (i : ScanInput) (test_rows list row score : ℕ) (old : SeenState) (sta
   -- and one for which it does
   pub saw-held : (noted new : SeenState) (more : ListsState) (key : Key) → has_row row old.seen ≡ false → noted ≡ record old { seen = insert_key nat_cmp old.seen row } →
       new ≡ record noted { held = put key_cmp row_key (row_of_key key) noted.held } → row_of_key key ≡ row_of i row → i.holds row ≡ true →
-      AreRaisedBut i.lists list state.random_count more.random_count → Saw i list old new more
-  saw-held noted new more key has is held key_is holds raised_are =
+      AreRaisedBut i.lists list state.random_count more.random_count → AreTold (lookups_of (length i.lists) sight) state.told more.told → Saw i list old new more
+  saw-held noted new more key has is held key_is holds raised_are told =
       let none = see-new has in
       let given : new.given ≡ old.given = ap (λ (s : SeenState). s.given) held ∙ ap (λ (s : SeenState). s.given) is in
       let seen : new.seen ≡ insert_key nat_cmp old.seen row = ap (λ (s : SeenState). s.seen) held ∙ ap (λ (s : SeenState). s.seen) is in
       let put_in : new.held ≡ put key_cmp row_key (row_of i row) old.held =
       ap (λ (s : SeenState). s.held) held ∙ ap (λ (s : SeenState). put key_cmp row_key (row_of_key key) s.held) is ∙ ap (λ r. put key_cmp row_key r old.held) key_is in record {
         seen = AreSeen-held i before after row old new (rows-new none) none see-row holds can.seen given seen put_in;
-        looked = looked-new none more raised_are;
+        looked = looked-new none more raised_are told;
         rounds_are = ap (λ (s : SeenState). s.rounds) held ∙ ap (λ (s : SeenState). s.rounds) is;
         given_are = given;
       }

@@ -20,7 +20,7 @@ abbrev pub row_shown : Sight → ℕ
 row_shown sight = sight.row
 
 -- whether a sight is of another row
-abbrev is_other : ℕ → Sight → Bool
+abbrev pub is_other : ℕ → Sight → Bool
 is_other row sight = not (eqb sight.row row)
 
 -- a row that was shown has a first sight
@@ -72,7 +72,7 @@ first_sights-old (first ∷ rest) sight h = elim (cases-In sight.row (map row_sh
 ]
 
 -- whether another list shows a row
-abbrev is_elsewhere : ℕ → Sight → Bool
+abbrev pub is_elsewhere : ℕ → Sight → Bool
 is_elsewhere list s = not (eqb s.list list)
 
 -- so it is looked up in each list but the one that shows it

@@ -48,7 +48,7 @@ module _ (i : ScanInput) (asks : ℕ) (state : ListsState) (are : AreAccessed i 
 
   pub random-in_all : total (length i.lists) state.random_count ≡ total (length i.lists) (lookups (sights i.lists (depth i asks)))
   random-in_all =
-      sum-same state.random_count (lookups (sights i.lists (depth i asks))) 1 (length i.lists) (λ list some most. are.random list (record { some = some; within = omega arith }))
+      sum-same state.random_count (lookups (sights i.lists (depth i asks))) 1 (length i.lists) (λ list some most. are.random.counts list (record { some = some; within = omega arith }))
 
 module _ (i : ScanInput) (asks : ℕ) (are : AreRanked i.lists) where
   -- a list is looked up no more often than there are rows

@@ -5,7 +5,8 @@ use Rattle.rs_rank.specs.declared.key.Key.{Key}
 use Rattle.rs_rank.specs.declared.row.RankRow.{RankRow}
 use Rattle.rs_rank.specs.declared.scored_row.ScoredRow.{ScoredRow}
 use Rattle.rs_rank.specs.declared.weights.Weights.{Weights}
-use Rattle.rs_ta.specs.Depths.{ScanInput, Sight, answers, depth, first_sights, ids_at, lookups, sights, thresholds}
+use Rattle.rs_ta.specs.Depths.{ScanInput, Sight, answers, depth, first_sights, ids_at, looked_up, lookups, sights, thresholds}
+use Rattle.rs_ta.specs.declared.lists.Lookup.{Lookup}
 
 abbrev entry : ℕ → ℕ → ScoredRow
 entry score row = record { score = score; row = row }
@@ -18,6 +19,9 @@ answer sum row = record { sum = sum; ids = ids_at 1 1 row }
 
 abbrev sight : ℕ → ℕ → Sight
 sight row list = record { row = row; list = list }
+
+abbrev lookup : ℕ → ℕ → Lookup
+lookup row list = record { row = row; list = list }
 
 -- three terms of weight 1
 abbrev three : Weights
@@ -52,6 +56,11 @@ five_sights = refl
 -- two answers take 10 random accesses
 five_lookups : map (lookups (sights five.lists 3)) (1 ∷ 2 ∷ 3 ∷ []) ≡ 2 ∷ 4 ∷ 4 ∷ []
 five_lookups = refl
+
+-- row by row in the order of their first sights, and list by list
+five_looked_up : looked_up 3 (sights five.lists 3)
+    ≡ lookup 4 2 ∷ lookup 4 3 ∷ lookup 5 1 ∷ lookup 5 2 ∷ lookup 2 2 ∷ lookup 2 3 ∷ lookup 1 1 ∷ lookup 1 3 ∷ lookup 3 2 ∷ lookup 3 3 ∷ []
+five_looked_up = refl
 
 -- two terms of weight 1
 abbrev two : Weights

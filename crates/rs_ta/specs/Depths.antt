@@ -1,6 +1,6 @@
 -- What a threshold scan gives and how far it goes, over finished lists. Places of a list count from 0.
 use Rattle.std.specs.Prelude.{ℕ, zero, suc, ◌+◌, ◌-◌, ◌*◌, ◌==◌, Bool, not, min, max, List, [], ◌∷◌, ◌++◌, length, map, slice_index_or, slice_set}
-use Rattle.std.specs.List.{filter}
+use Rattle.std.specs.List.{filter, flat_map}
 use Rattle.rs_order.specs.Asks.{asks_for, bar_after}
 use Rattle.rs_order.specs.Schedule.{numbers_from}
 use Rattle.rs_order.specs.Sorting.{sorted}
@@ -12,6 +12,7 @@ use Rattle.rs_rank.specs.declared.weights.Weights.{Weights}
 use Rattle.rs_rank.specs.Keys.{key_cmp}
 use Rattle.rs_rank.specs.Masks.{mask_of}
 use Rattle.rs_ta.specs.Lists.{rows_in, score_of}
+use Rattle.rs_ta.specs.declared.lists.Lookup.{Lookup}
 
 -- the weights, of which the first is that of the first list, and so on; the FROM entry that has the rows, and its block; the lists; and
 -- for which rows the test holds
@@ -101,3 +102,12 @@ rows_shown shown = map (λ sight. sight.row) (first_sights shown)
 -- how often a list is looked up: once for each row that another list showed first
 abbrev pub lookups : List Sight → ℕ → ℕ
 lookups shown list = length (filter (λ sight. not (sight.list == list)) (first_sights shown))
+
+-- the look-ups of a row that a list shows first: one in each other list of this many, in the order of the lists
+abbrev pub lookups_of : ℕ → Sight → List Lookup
+lookups_of lists sight =
+    map (λ list. record { row = sight.row; list = list }) (filter (λ list. not (list == sight.list)) (numbers_from 1 lists))
+
+-- all look-ups in order: those of each row that is shown, in the order of their first sights
+abbrev pub looked_up : ℕ → List Sight → List Lookup
+looked_up lists shown = flat_map (lookups_of lists) (first_sights shown)

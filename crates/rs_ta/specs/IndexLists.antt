@@ -1,5 +1,5 @@
 -- Lists over the rank indexes of a table: what they hold, and what contracts see of them.
-use Rattle.std.specs.Prelude.{ℕ, ◌≡◌, ◌≤◌, ◌<◌, List, [], ◌∷◌, length, map, Option, Some, option_map, refl, slice_get}
+use Rattle.std.specs.Prelude.{ℕ, ◌≡◌, ◌≤◌, ◌<◌, List, [], ◌∷◌, length, map, Option, Some, None, option_map, refl, slice_get}
 use Rattle.std.specs.Coded.{Coded, code_by, coded×, coded_ℕ, coded_list}
 use Rattle.std.specs.List.{AllByRecursion}
 use Rattle.rs_rank.specs.declared.scored_row.ScoredRow.{ScoredRow}
@@ -39,12 +39,13 @@ new_index_lists catalogue indexes = record {
   random = 0 ∷ 0 ∷ 0 ∷ 0 ∷ 0 ∷ 0 ∷ 0 ∷ 0 ∷ [];
 }
 
--- what contracts see of them
+-- what contracts see of them: they count, and tell no random accesses
 abbrev pub index_lists_state : IndexListsState → ListsState
 index_lists_state state = record {
   lists = rankings_of state.catalogue state.indexes;
   sorted_count = count_in state.sorted;
   random_count = count_in state.random;
+  told = None;
 }
 
 -- the rankings of indexes of a catalogue are lists of this many rows

@@ -1,10 +1,11 @@
 -- Ranked lists of the rows of one table, as contracts see them, and how often each was accessed. Lists and rows count from 1.
-use Rattle.std.specs.Prelude.{ℕ, ◌≡◌, ◌<◌, ◌≤◌, ◌-◌, ◌^◌, ◌==◌, List, [], ◌∷◌, length, map, sum, Option, Some, None, option_map, slice_get, slice_index, slice_index_or, if◌then◌else◌}
+use Rattle.std.specs.Prelude.{ℕ, ◌≡◌, ◌<◌, ◌≤◌, ◌-◌, ◌^◌, ◌==◌, List, [], ◌∷◌, length, map, sum, ◌++◌, ◌⊎◌, IfSome, Option, Some, None, option_map, slice_get, slice_index, slice_index_or, if◌then◌else◌}
 use Rattle.std.specs.List.{AllByRecursion}
 use Rattle.rs_order.specs.Schedule.{numbers_from}
 use Rattle.rs_rank.specs.declared.scored_row.ScoredRow.{ScoredRow}
 use Rattle.rs_catalog.specs.Indexes.{EntriesInOrder, RowsDiffer}
 use Rattle.rs_value.specs.Faults.{raised}
+use Rattle.rs_ta.specs.declared.lists.Lookup.{Lookup}
 
 -- a row of a table of this many
 pub record IsRow (rows row : ℕ) : Type 0 where
@@ -44,15 +45,22 @@ abbrev pub score_of : ℕ → List ScoredRow → ℕ
 score_of row [] = 0
 score_of row (e ∷ rest) = if e.row == row then e.score else score_of row rest
 
--- the lists, and of each number how many sorted and how many random accesses its list had; a count stands still at 2^64 - 1
+-- the lists; of each number how many sorted and how many random accesses its list had, where a count stands still at 2^64 - 1; and all
+-- random accesses, one after another, where they are told
 pub record ListsState : Type 0 where
   pub lists : List (List ScoredRow)
   pub sorted_count : ℕ → ℕ
   pub random_count : ℕ → ℕ
+  pub told : Option (List Lookup)
 
 -- no list was accessed
-abbrev pub AreUnaccessed : ListsState → Type 0
-AreUnaccessed state = (number : ℕ) → (state.sorted_count number ≡ 0) × (state.random_count number ≡ 0)
+pub record AreUnaccessed (state : ListsState) : Type 0 where
+  pub counts : (number : ℕ) → (state.sorted_count number ≡ 0) × (state.random_count number ≡ 0)
+  pub told : IfSome state.told (λ told. told ≡ [])
+
+-- these random accesses are told behind those that were told before, or none is told any more
+abbrev pub AreTold : List Lookup → Option (List Lookup) → Option (List Lookup) → Type 0
+AreTold lookups old new = (new ≡ None) ⊎ (new ≡ option_map (λ before. before ++ lookups) old)
 
 -- the score and the row of an entry
 abbrev pub pair_of : ScoredRow → ℕ × ℕ

@@ -13,7 +13,7 @@ use Rattle.rs_rank.specs.Weights.{IsWeights}
 use Rattle.rs_ta.specs.declared.terms.ScanTerms.{ScanTerms}
 use Rattle.rs_ta.specs.Depths.{ScanInput, Sight, answers_among, depth, entry_at, row_key, row_of, rows_shown, sights, sights_from, threshold, thresholds}
 use Rattle.rs_ta.specs.Lists.{AreRanked, IsList, IsRow, ListsState, list_at, rows_in}
-use Rattle.rs_ta.specs.Scans.{AreLookedUp, AreSorted, HaveWeights, IsEntry}
+use Rattle.rs_ta.specs.Scans.{AreAccessedWithin, AreLookedUp, AreSorted, HaveWeights, IsEntry}
 
 -- the row of a key whose bound is its sum
 abbrev pub row_of_key : Key → RankRow
@@ -113,6 +113,11 @@ pub record IsAtEnd (i : ScanInput) (old new : SeenState) (state : ListsState) : 
 abbrev pub Rounded : ScanInput → SeenState → SeenState → ListsState → Option Key → Type 0
 Rounded i old new state None = IsAtEnd i old new state
 Rounded i old new state (Some key) = WentOn i old new state key
+
+-- a round inside the lists was made in part
+pub record WasRefused (i : ScanInput) (rounds : ℕ) (state : ListsState) : Type 0 where
+  pub inside : rounds < rows_in i.lists
+  pub within : AreAccessedWithin i rounds (suc rounds) state
 
 -- the rows and the lists stand at some depth for the next answer, and no deeper; the last threshold is known
 pub record CanAdvance (i : ScanInput) (rows : SeenState) (last : Option Key) (state : ListsState) : Type 0 where

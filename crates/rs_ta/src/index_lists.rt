@@ -7,7 +7,8 @@ use crate::lists::Lists;
 use rs_catalog::Catalog;
 use std::marker::Model;
 
-/// The rank indexes of one table, as lists. An index may be more than one list: each is counted for itself.
+/// The rank indexes of one table, as lists. An index may be more than one list: each is counted for itself. Random accesses are
+/// counted alone, and none is told: that would take memory at each.
 #[derive(Drop)]
 pub struct IndexLists<'a> {
     catalog: &'a Catalog,

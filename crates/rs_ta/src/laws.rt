@@ -1,10 +1,12 @@
 //! Laws of the threshold scan over finished lists. The functions compute nothing; each is called for its contract.
 
-ghost use Rattle.std.specs.Prelude.{◌≡◌, ◌≤◌, ◌*◌, ℕ, Bool, suc, [], length};
-ghost use Rattle.rs_order.specs.Climbing.{Climbs};
+ghost use Rattle.std.specs.Prelude.{◌≡◌, ◌≤◌, ◌*◌, ◌==◌, ◌&&◌, ℕ, Bool, List, suc, [], length, if◌then◌else◌};
+ghost use Rattle.std.specs.List.{filter};
+ghost use Rattle.rs_order.specs.Climbing.{Climbs, In};
 ghost use Rattle.rs_rank.specs.declared.weights.Weights.{Weights};
 ghost use Rattle.rs_rank.specs.Keys.{key_cmp};
-ghost use Rattle.rs_ta.specs.Depths.{ScanInput, answers, depth, lookups, row_key, sights, thresholds};
+ghost use Rattle.rs_ta.specs.Depths.{ScanInput, Sight, answers, depth, first_sights, looked_up, lookups, row_key, rows_shown, sights, thresholds};
+ghost use Rattle.rs_ta.specs.declared.lists.Lookup.{Lookup};
 ghost use Rattle.rs_ta.specs.Lists.{AreRanked, ListsState, rows_in, total};
 ghost use Rattle.rs_ta.specs.Scans.{AreAccessed, AreLookedUp, AreSorted, HaveWeights, IsEntry, Stands, input_of, new_scan};
 
@@ -30,6 +32,17 @@ pub fn depths_grow()
     ensures grow { (i : ScanInput) (asks : ℕ) → IsEntry i.entry → AreRanked i.lists → HaveWeights i
         → depth i asks ≤ depth i (suc asks) }
     ensures most { (i : ScanInput) (asks : ℕ) → depth i asks ≤ rows_in i.lists }
+{}
+
+/// Each row that is shown is looked up exactly once in each list but the one that shows it first, and no other row is looked up: each
+/// list as often as its count says.
+pub fn rows_are_looked_up_once()
+    ensures once { (lists : ℕ) (shown : List Sight) (sight : Sight) (list : ℕ) → In sight (first_sights shown) → 1 ≤ list → list ≤ lists
+        → length (filter (λ lookup. lookup.row == sight.row && lookup.list == list) (looked_up lists shown)) ≡ (if list == sight.list then 0 else 1) }
+    ensures no_other { (lists : ℕ) (shown : List Sight) (lookup : Lookup) → In lookup (looked_up lists shown)
+        → In lookup.row (rows_shown shown) × (1 ≤ lookup.list) × (lookup.list ≤ lists) }
+    ensures counts { (lists : ℕ) (shown : List Sight) (list : ℕ) → 1 ≤ list → list ≤ lists
+        → length (filter (λ lookup. lookup.list == list) (looked_up lists shown)) ≡ lookups shown list }
 {}
 
 /// How deep the asks go decides what all lists together had: as many sorted accesses as lists times places, and the look-ups of all

@@ -26,9 +26,10 @@ pub use block_test::BlockTest;
 pub use eligible::eligible_indexes;
 pub use index_lists::IndexLists;
 pub use laws::{
-    depths_decide_the_sums_of_accesses, depths_grow, new_scan_stands, thresholds_and_answers_rise,
+    depths_decide_the_sums_of_accesses, depths_grow, new_scan_stands, rows_are_looked_up_once,
+    thresholds_and_answers_rise,
 };
-pub use lists::Lists;
+pub use lists::{Lists, Lookup};
 pub use mem_lists::MemLists;
 pub use row_test::RowTest;
 pub use scan::ThresholdScan;

@@ -1,8 +1,8 @@
-ghost use Rattle.std.specs.Prelude.{◌≡◌, ◌<◌, ℕ, ◌==◌, map, if◌then◌else◌};
+ghost use Rattle.std.specs.Prelude.{◌≡◌, ◌<◌, ℕ, ◌==◌, [], ◌∷◌, length, map, if◌then◌else◌};
 ghost use Rattle.rs_value.specs.Faults.{raised};
 ghost use Rattle.rs_rank.specs.Weights.{IsWeights};
-ghost use Rattle.rs_ta.specs.Depths.{weighted_sum};
-ghost use Rattle.rs_ta.specs.Lists.{AreRanked, AreSame, IsList, IsRow, list_at, rows_in, score_of};
+ghost use Rattle.rs_ta.specs.Depths.{lookups_of, weighted_sum};
+ghost use Rattle.rs_ta.specs.Lists.{AreRanked, AreSame, AreTold, IsList, IsRow, list_at, rows_in, score_of};
 ghost use Rattle.rs_ta.specs.Lookups.{AreRaisedBut, IsRaisedUnless};
 
 use crate::lists::Lists;
@@ -26,6 +26,7 @@ pub(crate) fn sum_of<L: Lists>(
     ensures lists { (L.state lists.new).lists ≡ (L.state lists.old).lists }
     ensures counts { AreRaisedBut (L.state lists.old).lists shown (L.state lists.old).random_count (L.state lists.new).random_count }
     ensures others { AreSame (L.state lists.old).lists (L.state lists.old).sorted_count (L.state lists.new).sorted_count }
+    ensures told { AreTold (lookups_of (length (L.state lists.old).lists) (record { row = row; list = shown })) (L.state lists.old).told (L.state lists.new).told }
 {
     let mut sum = 0;
     for place in 0..lists.lists() {
@@ -44,6 +45,7 @@ fn score_in<L: Lists>(lists: &mut L, list: u8, shown: u8, row: u32, score: u32) 
     ensures lists { (L.state lists.new).lists ≡ (L.state lists.old).lists }
     ensures counts { IsRaisedUnless (L.state lists.old).lists list shown (L.state lists.old).random_count (L.state lists.new).random_count }
     ensures others { AreSame (L.state lists.old).lists (L.state lists.old).sorted_count (L.state lists.new).sorted_count }
+    ensures told { AreTold (if list == shown then [] else record { row = row; list = list } ∷ []) (L.state lists.old).told (L.state lists.new).told }
 {
     if list == shown {
         score

@@ -1,38 +1,49 @@
-ghost use Rattle.std.specs.Prelude.{◌≡◌, [], ◌∷◌, ◌-◌, ◌^◌, length, map, min, slice_get};
-ghost use Rattle.rs_ta.specs.Lists.{AreRanked, AreUnaccessed, score_of, total};
+ghost use Rattle.std.specs.Prelude.{◌≡◌, [], ◌∷◌, ◌-◌, ◌^◌, Some, length, map, min, option_map, slice_get};
+ghost use Rattle.rs_ta.specs.Lists.{AreRanked, AreTold, AreUnaccessed, score_of, total};
 ghost use Rattle.rs_ta.specs.MemLists.{entry_of, lists_state, scored_lists};
 
 use crate::access_counts::{raise, sum_of};
-use crate::lists::Lists;
+use crate::lists::{Lists, Lookup};
+use std::alloc::Global;
 use std::marker::Model;
 
-/// Lists in memory, of scores and rows.
+/// Lists in memory, of scores and rows, for tests. They tell their random accesses; where there is no memory for one, they tell none
+/// from then on.
 #[derive(Debug, Drop)]
 pub struct MemLists {
     lists: Vec<Vec<(u32, u32)>>,
     sorted: [u64; 8],
     random: [u64; 8],
+    // The random accesses, while there is memory to tell them.
+    told: Option<Vec<Lookup>>,
 }
 
 impl Model for MemLists {
+    ghost use Rattle.std.specs.Prelude.{option_map};
     ghost use Rattle.rs_ta.specs.Lists.{AreRanked};
     ghost use Rattle.rs_ta.specs.MemLists.{MemListsState, scored_lists};
 
     ghost Value = { MemListsState };
 
-    ghost view = { λ m. record { lists = scored_lists m.lists.items; sorted = m.sorted; random = m.random } };
+    ghost view = { λ m. record {
+      lists = scored_lists m.lists.items;
+      sorted = m.sorted;
+      random = m.random;
+      told = option_map (λ told. told.items) m.told;
+    } };
 
     ghost invariant = { λ m. AreRanked (scored_lists m.lists.items) };
 }
 
 impl MemLists {
     /// The lists, of which none was accessed. It takes no memory.
-    pub fn new(lists: Vec<Vec<(u32, u32)>>) -> MemLists
+    pub fn new(alloc: Global, lists: Vec<Vec<(u32, u32)>>) -> MemLists
         requires { AreRanked (scored_lists lists.items) }
         ensures value { result ≡ record {
           lists = scored_lists lists.items;
           sorted = 0 ∷ 0 ∷ 0 ∷ 0 ∷ 0 ∷ 0 ∷ 0 ∷ 0 ∷ [];
           random = 0 ∷ 0 ∷ 0 ∷ 0 ∷ 0 ∷ 0 ∷ 0 ∷ 0 ∷ [];
+          told = Some [];
         } }
         ensures unaccessed { AreUnaccessed (lists_state result) }
     {
@@ -40,6 +51,7 @@ impl MemLists {
             lists,
             sorted: [0; 8],
             random: [0; 8],
+            told: Some(Vec::new(alloc)),
         }
     }
 
@@ -50,6 +62,20 @@ impl MemLists {
     {
         let lists = self.lists.len();
         (sum_of(&self.sorted, lists), sum_of(&self.random, lists))
+    }
+
+    /// The random accesses, one after another.
+    ///
+    /// # Errors
+    ///
+    /// - `None`: where there was no memory to tell one of them.
+    pub fn told(&self) -> Option<&[Lookup]>
+        ensures { option_map (λ told. told.now) result ≡ self.now.told }
+    {
+        match &self.told {
+            Some(told) => Some(told),
+            None => None,
+        }
     }
 }
 
@@ -71,7 +97,19 @@ impl Lists for MemLists {
 
     fn random(&mut self, list: u8, row: u32) -> u32 {
         raise(&mut self.random, list);
+        self.told = told_behind(self.told.take(), Lookup { row, list });
         score_in(&self.lists[usize::from(list - 1)], row)
+    }
+}
+
+/// What is told once this random access is too: nothing any more where there is no memory for it.
+fn told_behind(told: Option<Vec<Lookup>>, lookup: Lookup) -> Option<Vec<Lookup>>
+    ensures { AreTold (lookup ∷ []) (option_map (λ told. told.items) told) (option_map (λ told. told.items) result) }
+{
+    let mut told = told?;
+    match told.push(lookup) {
+        Ok(()) => Some(told),
+        Err(_) => None,
     }
 }
 

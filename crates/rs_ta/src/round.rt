@@ -1,6 +1,8 @@
-ghost use Rattle.std.specs.Prelude.{◌≡◌, IfOk, OnOk};
+ghost use Rattle.std.specs.Prelude.{◌≡◌, ◌-◌, IfOk, OnErr, OnOk, suc};
 ghost use Rattle.rs_ta.specs.Lists.{AreSame};
-ghost use Rattle.rs_ta.specs.Rounds.{Advanced, AreBetween, CanAdvance, CanSee, IsInput, Rounded, Saw, input_with};
+ghost use Rattle.rs_ta.specs.Depths.{depth};
+ghost use Rattle.rs_ta.specs.Rounds.{Advanced, AreBetween, CanAdvance, CanSee, IsInput, Rounded, Saw, WasRefused, input_with, shown_by};
+ghost use Rattle.rs_ta.specs.Scans.{AreAccessedWithin, AreLookedUpWithin};
 
 use crate::lists::Lists;
 use crate::lookup::sum_of;
@@ -22,6 +24,8 @@ pub(crate) fn advance<T: RowTest, L: Lists>(
     requires can { CanAdvance (input_with terms.now (L.state lists.old) (T.truth test.now)) rows.old last.old (L.state lists.old) }
     ensures lists { (L.state lists.new).lists ≡ (L.state lists.old).lists }
     ensures ok { OnOk result (Advanced (input_with terms.now (L.state lists.old) (T.truth test.now)) rows.old rows.new last.new (L.state lists.new)) }
+    ensures err { OnErr result (let i = input_with terms.now (L.state lists.old) (T.truth test.now) in
+        AreAccessedWithin i rows.old.rounds (depth i (suc rows.old.given)) (L.state lists.new)) }
 {
     while !rows.is_reached(last) {
         match round(terms, rows, test, lists)? {
@@ -44,6 +48,7 @@ pub(crate) fn round<T: RowTest, L: Lists>(
     requires between { AreBetween (input_with terms.now (L.state lists.old) (T.truth test.now)) rows.old (L.state lists.old) }
     ensures lists { (L.state lists.new).lists ≡ (L.state lists.old).lists }
     ensures ok { IfOk result (λ key. Rounded (input_with terms.now (L.state lists.old) (T.truth test.now)) rows.old rows.new (L.state lists.new) key) }
+    ensures err { OnErr result (WasRefused (input_with terms.now (L.state lists.old) (T.truth test.now)) rows.old.rounds (L.state lists.new)) }
 {
     let mut bound = 0;
     let mut greatest = 0;
@@ -76,6 +81,8 @@ fn see<T: RowTest, L: Lists>(
     ensures lists { (L.state lists.new).lists ≡ (L.state lists.old).lists }
     ensures sorted { AreSame (L.state lists.old).lists (L.state lists.old).sorted_count (L.state lists.new).sorted_count }
     ensures ok { OnOk result (Saw (input_with terms.now (L.state lists.old) (T.truth test.now)) list rows.old rows.new (L.state lists.new)) }
+    ensures err { OnErr result (let i = input_with terms.now (L.state lists.old) (T.truth test.now) in
+        AreLookedUpWithin i (L.state lists.new) (shown_by i.lists rows.old.rounds (list - 1)) (shown_by i.lists rows.old.rounds list)) }
 {
     let is_new = rows.note(row)?;
     if !is_new {

@@ -1,8 +1,8 @@
 ghost use Rattle.std.specs.Prelude.{◌≡◌, ◌↔◌, None, suc, false, true, IfOk, OnErr, OnOk, length, slice_get, is_none, is_some, ◌+◌, if◌then◌else◌};
 ghost use Rattle.rs_rank.specs.Weights.{IsWeights};
-ghost use Rattle.rs_ta.specs.Depths.{answers};
+ghost use Rattle.rs_ta.specs.Depths.{answers, depth};
 ghost use Rattle.rs_ta.specs.Lists.{rows_in};
-ghost use Rattle.rs_ta.specs.Scans.{AreAccessed, HaveWeights, IsEntry, Stands, asks_of, input_of, new_scan, scan_after};
+ghost use Rattle.rs_ta.specs.Scans.{AreAccessed, AreAccessedWithin, HaveWeights, IsEntry, Stands, asks_of, input_of, new_scan, scan_after};
 
 use crate::lists::Lists;
 use crate::round::advance;
@@ -90,7 +90,8 @@ impl ThresholdScan {
     /// # Errors
     ///
     /// - `None`: exactly once all rows of the answer were given, and at each later call.
-    /// - `Memory`: at any call; the scan is spent from then on.
+    /// - `Memory`: at any call; the scan is spent from then on. The lists had the accesses of the asks before this one, and
+    ///   none beyond those of this one.
     pub fn next<L: Lists, T: RowTest>(
         &mut self,
         test: &T,
@@ -108,6 +109,8 @@ impl ThresholdScan {
         ensures input { OnOk result (input_of self.new (L.state lists.new) (T.truth test.now) ≡ input_of self.old (L.state lists.old) (T.truth test.now)) }
         ensures lists { (L.state lists.new).lists ≡ (L.state lists.old).lists }
         ensures err { OnErr result (self.new.spent ≡ true) }
+        ensures refused { OnErr result (let i = input_of self.old (L.state lists.old) (T.truth test.now) in
+            AreAccessedWithin i (depth i (asks_of self.old)) (depth i (suc self.old.given)) (L.state lists.new)) }
     {
         // Its contract says that the lists are ranked.
         let _ = lists.lists();

@@ -14,6 +14,7 @@ use Rattle.rs_query.specs.Questions.{asking, is_bad, through_first, request_for,
 use Rattle.rs_query.specs.Tables.{sizes_of}
 use Rattle.rs_query.specs.Views.{all_rows}
 use Rattle.rs_query.specs.WellFormed.{IsQuery}
+use Rattle.rs_query.specs.declared.block.Block.{Block}
 use Rattle.rs_query.specs.declared.query.Query.{Query}
 use Rattle.rs_query.specs.declared.query.Query.TheVariants.{One, Set}
 use Rattle.rs_query.proofs.FreshFacts.{fresh-all}
@@ -48,12 +49,16 @@ pub questions-all : (catalogue : CatalogDef) (query : Query) → IsQuery catalog
 questions-all catalogue (One block limit) formed all = ap (flat_map (row_questions 1 block)) (fresh-all catalogue block formed.0)
 questions-all catalogue (Set op left right limit) formed all = absurd all
 
--- where nothing is new nothing is asked
+-- where nothing is new there is no question
+pub fresh-none : (catalogue : CatalogDef) (block : Block) (lengths : List ℕ) → lengths ≡ sizes_of catalogue block → fresh_questions catalogue block lengths ≡ []
+fresh-none catalogue block lengths same =
+    let none : fresh catalogue block lengths ≡ [] =
+    filter-none (has_new_row lengths) (all_combinations catalogue block)
+    (λ rows h. ap (λ old. has_new_row old rows) same ∙ old-no_new catalogue block (sizes_of catalogue block) rows h) in
+    ap (flat_map (row_questions 1 block)) none
+
+-- and nothing is asked
 pub nothing-asked : (answer : Answering) (catalogue : CatalogDef) (view : ViewDef) → view.lengths ≡ sizes_of catalogue (block_in view.query 1)
     → (growing answer catalogue view).requests ≡ []
 nothing-asked answer catalogue view same =
-    let block = block_in view.query 1 in
-    let none : fresh catalogue block view.lengths ≡ [] =
-    filter-none (has_new_row view.lengths) (all_combinations catalogue block)
-    (λ rows h. ap (λ old. has_new_row old rows) same ∙ old-no_new catalogue block (sizes_of catalogue block) rows h) in
-    ap (λ combinations. map (request_for plain_faults catalogue) (through_first (is_bad answer catalogue) (flat_map (row_questions 1 block) combinations))) none
+    ap (λ questions. map (request_for plain_faults catalogue) (through_first (is_bad answer catalogue) questions)) (fresh-none catalogue (block_in view.query 1) view.lengths same)

@@ -2,8 +2,10 @@ mod WorkedViews
 pub mod CallFacts
 pub mod FirstFacts
 pub mod GrowFacts
+pub mod HoldingFacts
 pub mod LifeFacts
 pub mod MergeFacts
 pub mod RowFacts
 pub mod SplitFacts
 pub mod StandFacts
+pub mod TopFacts

@@ -7,7 +7,7 @@ use Rattle.std.proofs.lemmas.List.{map-append}
 use Rattle.std.proofs.lemmas.List.Sorted.{IsPermutation-append_comm, IsPermutation-append_left, IsPermutation-append_right, IsPermutation-filter_both, IsPermutation-map, IsPermutation-refl, IsPermutation-sym, IsPermutation-trans}
 use Rattle.rs_order.specs.Climbing.{In}
 use Rattle.rs_order.proofs.ClimbingFacts.{AllByRecursion-In, AllByRecursion-from_In}
-use Rattle.rs_order.proofs.ItemFacts.{In-filter-back, In-flat_map, In-flat_map-back, In-map-back}
+use Rattle.rs_order.proofs.ItemFacts.{In-filter, In-filter-back, In-flat_map, In-flat_map-back, In-map-back}
 use Rattle.rs_expr.specs.InOrder.{calls_of}
 use Rattle.rs_expr.specs.Scores.{is_score}
 use Rattle.rs_expr.specs.Scoring.{Answering, call_of}
@@ -61,11 +61,11 @@ flat-parts {X} {Y} p f (x ∷ xs) = go (p x) (flat-parts p f xs) where
       (IsPermutation-append_right (f x) (fails ++ passes) (flat_map f xs) rest)
 
 -- the first item of which something is so: there is none where it is so of none
-first-none : {A : Type 0} (is : A → Bool) (xs : List A) → AllByRecursion (λ x. is x ≡ false) xs → first_of is xs ≡ None
+pub first-none : {A : Type 0} (is : A → Bool) (xs : List A) → AllByRecursion (λ x. is x ≡ false) xs → first_of is xs ≡ None
 first-none is [] none = refl
 first-none is (x ∷ xs) none = ap (λ b. if b then Some x else first_of is xs) none.0 ∙ first-none is xs none.1
 
-none-first : {A : Type 0} (is : A → Bool) (xs : List A) → first_of is xs ≡ None → AllByRecursion (λ x. is x ≡ false) xs
+pub none-first : {A : Type 0} (is : A → Bool) (xs : List A) → first_of is xs ≡ None → AllByRecursion (λ x. is x ≡ false) xs
 none-first is [] e = tt
 none-first {A} is (x ∷ xs) e = go (is x) refl (none-first is xs) e where
   go : (b : Bool) → is x ≡ b → (first_of is xs ≡ None → AllByRecursion (λ x. is x ≡ false) xs) → (if b then Some x else first_of is xs) ≡ None
@@ -86,7 +86,7 @@ combinations-parts old new block grows is =
     (IsPermutation-sym all (newer ++ older) (IsPermutation-filter_both is_new (λ rows. not (is_new rows)) (λ rows. refl) all)))
 
 module _ (answer : Answering) where
-  abbrev IsGood : CatalogDef → List Question → Type 0
+  abbrev pub IsGood : CatalogDef → List Question → Type 0
   IsGood catalogue questions = AllByRecursion (λ q. is_bad answer catalogue q ≡ false) questions
 
   request-calls : (catalogue : CatalogDef) (questions : List Question) → calls_of (map (request_for plain_faults catalogue) questions) ≡ map (call_for catalogue) questions
@@ -108,7 +108,7 @@ module _ (answer : Answering) where
     go (Some q) same = absurd cc
 
   module _ (block : Block) where
-    abbrev all_questions : CatalogDef → List Question
+    abbrev pub all_questions : CatalogDef → List Question
     all_questions catalogue = flat_map (row_questions 1 block) (all_combinations catalogue block)
 
     module _ (old new : CatalogDef) (grows : CatalogueGrows old new) (is : IsBlock old block) where
@@ -152,6 +152,25 @@ module _ (answer : Answering) where
           let made = In-flat_map-back (row_questions 1 block) q (fresh new block (sizes_of old block)) h in
           let there = (In-filter-back (has_new_row (sizes_of old block)) made.source (all_combinations new block) made.is_in).0 in
           AllByRecursion-In (λ q. is_bad answer new q ≡ false) (all_questions new) good q (In-flat_map (row_questions 1 block) made.source q (all_combinations new block) there made.made))
+
+      -- where they were good before it, and those of the fresh questions are, all are
+      pub good-behind : IsGood old (all_questions old) → IsGood new (fresh_questions new block (sizes_of old block)) → IsGood new (all_questions new)
+      good-behind good more =
+          AllByRecursion-from_In (λ q. is_bad answer new q ≡ false) (all_questions new)
+          (λ q h.
+          let made = In-flat_map-back (row_questions 1 block) q (all_combinations new block) h in
+          each q made.source made.is_in made.made (has_new_row (sizes_of old block) made.source) refl) where
+            each : (q : Question) (rows : List ℕ) → In rows (all_combinations new block) → In q (row_questions 1 block rows)
+                → (b : Bool) → has_new_row (sizes_of old block) rows ≡ b → is_bad answer new q ≡ false
+            each q rows there asked true is_new =
+                AllByRecursion-In (λ q. is_bad answer new q ≡ false) (fresh_questions new block (sizes_of old block)) more q
+                (In-flat_map (row_questions 1 block) rows q (fresh new block (sizes_of old block))
+                (In-filter (has_new_row (sizes_of old block)) rows (all_combinations new block) there is_new) asked)
+            each q rows there asked false none =
+                let kept = In-filter (λ rows. not (has_new_row (sizes_of old block) rows)) rows (all_combinations new block) there (ap not none) in
+                let before = subst (In rows) (combinations-kept old new grows block is) kept in
+                let old_one = In-flat_map (row_questions 1 block) rows q (all_combinations old block) before asked in
+                (same-question q old_one).bad ∙ AllByRecursion-In (λ q. is_bad answer old q ≡ false) (all_questions old) good q old_one
 
       -- the calls of before and those of the fresh questions are all
       calls-parts : IsPermutation (map (call_for old) (all_questions old) ++ map (call_for new) (fresh_questions new block (sizes_of old block))) (map (call_for new) (all_questions new))

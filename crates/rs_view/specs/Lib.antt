@@ -1,4 +1,5 @@
 pub mod Fresh
+pub mod Holding
 pub mod Keeping
 pub mod Lives
 pub mod Stored

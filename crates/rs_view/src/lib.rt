@@ -11,5 +11,8 @@ mod laws;
 mod view;
 
 pub use keepable::is_keepable;
-pub use laws::{nothing_new_asks_nothing, views_ask_nothing_twice, views_go_on_to_stand};
+pub use laws::{
+    nothing_new_asks_nothing, views_ask_nothing_twice, views_go_on_to_stand,
+    views_have_their_answers,
+};
 pub use view::View;

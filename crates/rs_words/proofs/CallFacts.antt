@@ -9,14 +9,15 @@ use Rattle.rs_feed_join.specs.Answers.{Answers, Fails, HasDrawn, HasToldRefused,
 use Rattle.rs_table_feed.specs.TableFeeds.{TableFeedState, table_feed_state}
 use Rattle.rs_feed_join.specs.Cuts.{HaveScores, most_rows}
 use Rattle.rs_feed_join.specs.Joins.{FeedJoinState, IsRefusal, side_in}
-use Rattle.rs_feed_join.specs.Sides.{FeedSide, IsDrawnOf}
+use Rattle.rs_feed_join.specs.Sides.{FeedSide, IsDrawnOf, new_side}
 use Rattle.rs_order.specs.Last.{last_of}
 use Rattle.rs_order.specs.Schedule.{JoinSide, Left, Right, SideAsk, asked}
 use Rattle.rs_events.specs.Run.{Run, fails}
 use Rattle.rs_words.specs.declared.fault.WordFault.{WordFault}
 use Rattle.rs_words.specs.declared.fault.WordFault.TheVariants.{Memory}
 use Rattle.rs_words.specs.Feeding.{call_run}
-use Rattle.rs_words.specs.Joining.{IsDrawnOfTable, IsOfTables, fault_of, join_fault}
+use Rattle.rs_words.specs.Gathering.{StopsShort}
+use Rattle.rs_words.specs.Joining.{IsDrawnOfTable, IsJoining, IsOfTables, IsUndrawn, JoinLeaves, fault_of, join_fault}
 
 -- where no item passes, all come
 up_to-all : {X : Type 0} (passes : X → Bool) (xs : List X) → find passes xs ≡ None → up_to passes xs ≡ xs
@@ -87,11 +88,38 @@ call-fails lefts rights n (Err why) more fault e = ap fails (let same : join_fau
 pub rows-kept : (before after : List FeedRow) → ◌≡◌ {A = Option (List FeedRow)} (Some after) (Some before) → after ≡ before
 rows-kept before after e = cc
 
-pub drawn-after : (old new : TableFeedState) (side after : FeedSide) (broken : Bool) → IsDrawnOfTable old side → broken ≡ false → IsDrawnOf broken (table_feed_state new) after
-    → ◌≡◌ {A = Option (List FeedRow)} (Some new.rows) (Some old.rows) → IsDrawnOfTable new after
-drawn-after old new side after broken was unbroken drawn told =
-    let same = rows-kept old.rows new.rows told in record {
-      drawn = subst (λ b. IsDrawnOf b (table_feed_state new) after) unbroken drawn;
-      scores = subst (λ rows. HaveScores rows) (sym same) was.scores;
-      few = subst (λ rows. length rows ≤ most_rows) (sym same) was.few;
-    }
+-- two feeds of tables of which nothing is drawn, and what calls of a join leave of them
+module _ (left right left_after right_after : TableFeedState) (left_is : IsUndrawn left) (right_is : IsUndrawn right) (state : FeedJoinState) (last : Result (Option FeedPair) JoinFault)
+    (leaves : JoinLeaves state (table_feed_state left) (table_feed_state left_after) (table_feed_state right) (table_feed_state right_after) last) where
+  pub of-leaves : (n : ℕ) (why : JoinFault) → last ≡ Err why → IsNext left.rows right.rows n state.left state.right (Err why) → IsOfTables why
+  of-leaves n why is next =
+      of-tables left.rows right.rows left_is.few right_is.few state n why next (subst (IsRefusal state) is leaves.refused) (subst (HasToldRefused 1 (Some left.rows) state.left) is leaves.left_refused)
+      (subst (HasToldRefused 2 (Some right.rows) state.right) is leaves.right_refused)
+      (λ e. leaves.unbroken (is ∙ ap Err e)) (λ e. (leaves.left_counts.sure refl).1 (is ∙ ap Err e)) (λ e. (leaves.right_counts.sure refl).1 (is ∙ ap Err e))
+
+  pub of-short : (count : ℕ) (why : JoinFault) → last ≡ Err why → StopsShort left.rows right.rows count why state → IsOfTables why
+  of-short count why is (inl stops) = of-leaves stops.n why is stops.next
+  of-short count why is (inr short) = subst IsOfTables (sym short.0) tt
+
+  pub joining-after : state.broken ≡ false → IsJoining state left_after right_after
+  joining-after whole = record {
+    unbroken = whole;
+    left_feed = after left left_after state.left left_is leaves.left_drawn leaves.left_told;
+    right_feed = after right right_after state.right right_is leaves.right_drawn leaves.right_told;
+  } where
+    after : (old new : TableFeedState) (side : FeedSide) → IsUndrawn old → IsDrawnOf state.broken (table_feed_state new) side → ◌≡◌ {A = Option (List FeedRow)} (Some new.rows) (Some old.rows) → IsDrawnOfTable new side
+    after old new side is drawn told =
+        let same = rows-kept old.rows new.rows told in record {
+          drawn = subst (λ b. IsDrawnOf b (table_feed_state new) side) whole drawn;
+          scores = subst (λ rows. HaveScores rows) (sym same) is.scores;
+          few = subst (λ rows. length rows ≤ most_rows) (sym same) is.few;
+        }
+
+-- a feed of a table of which nothing is drawn
+pub undrawn : (feed : TableFeedState) (broken : Bool) → IsUndrawn feed → IsDrawnOf broken (table_feed_state feed) new_side
+undrawn feed broken is = record {
+  draws = ap (λ (f : TableFeedState). f.draws) is.new;
+  given = λ _. ap (λ (f : TableFeedState). f.given) is.new;
+  rows = refl;
+  ended = λ e. absurd cc;
+}

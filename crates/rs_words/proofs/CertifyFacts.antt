@@ -1,7 +1,10 @@
 -- The certificate of the first pairs of two feeds of tables.
-use Rattle.std.proofs.Common.{ℕ, zero, suc, ◌≡◌, ◌∙◌, ◌+◌, ◌-◌, ◌<◌, ◌≤◌, ◌⊎◌, nat_lt, Bool, true, false, cond, List, [], ◌∷◌, ◌++◌, length, min, take, Option, Some, None, Result, Ok, Err, refl, sym, ap, subst, inl, inr, arith}
+use Rattle.std.proofs.Common.{ℕ, zero, suc, ◌≡◌, ◌∙◌, ◌+◌, ◌-◌, ◌<◌, ◌≤◌, ◌⊎◌, nat_lt, Bool, true, false, cond, List, length, min, take, Option, Some, None, Result, Ok, Err, pos, refl, sym, ap, subst, inl, inr, arith}
+use Rattle.std.specs.Prelude.{IfErr, MatchResult}
 use Rattle.std.proofs.lemmas.Bool.Decides.{nat_tests}
-use Rattle.std.proofs.lemmas.List.{length-take, map-append, take_all}
+use Rattle.std.proofs.lemmas.List.{length-take, take_all}
+use Rattle.rs_value.specs.Outside.{untold}
+use Rattle.rs_outside.specs.DirFiles.{disk_state}
 use Rattle.rs_value.specs.Results.{◌>>=◌}
 use Rattle.rs_cert.specs.declared.cert.Cert.{Cert}
 use Rattle.rs_cert.specs.declared.cert.CertSide.{CertSide}
@@ -12,25 +15,31 @@ use Rattle.rs_feed.specs.declared.feed_row.FeedRow.{FeedRow}
 use Rattle.rs_table_feed.specs.TableFeeds.{TableFeedState}
 use Rattle.rs_feed_join.specs.declared.fault.JoinFault.{JoinFault}
 use Rattle.rs_feed_join.specs.declared.feed_pair.FeedPair.{FeedPair}
-use Rattle.rs_feed_join.specs.Answers.{HasDrawn, asks_of_cuts, next_answer}
+use Rattle.rs_feed_join.specs.Answers.{HasDrawn, next_answer}
 use Rattle.rs_feed_join.specs.Cuts.{cut}
 use Rattle.rs_feed_join.specs.Joins.{FeedJoinState}
 use Rattle.rs_feed_join.specs.Pairs.{joined_pairs}
 use Rattle.rs_feed_join.specs.Ranked.{asks_of_rows}
 use Rattle.rs_feed_join.specs.Sides.{FeedSide, IsCounted}
 use Rattle.rs_order.specs.Schedule.{Left, Right, SideAsk, asked}
-use Rattle.rs_order.proofs.PartFacts.{take-snoc}
 use Rattle.rs_ripple.specs.Stands.{BeginsWith}
 use Rattle.rs_events.specs.Environment.{Environment}
-use Rattle.rs_events.specs.Run.{fails}
+use Rattle.rs_events.specs.HaltFaults.{Answers, IsFaultOf}
+use Rattle.rs_events.specs.Halts.{CallFailed, Ended, FetchFailed, Halt, NoMemory, PutFailed}
+use Rattle.rs_events.specs.Run.{fails, lines_run}
 use Rattle.rs_events.specs.Running.{Ran}
 use Rattle.rs_events.proofs.RanFacts.{HasDone-none, Ran-all, Ran-first}
 use Rattle.rs_words.specs.declared.fault.WordFault.{WordFault}
-use Rattle.rs_words.specs.declared.fault.WordFault.TheVariants.{CertTooLong, Memory}
-use Rattle.rs_words.specs.Certifying.{bytes_of, bytes_run, cert_after, certified, certified_after, certified_behind, few_rows, joined_bytes, side_after}
+use Rattle.rs_words.specs.declared.fault.WordFault.TheVariants.{CertTooLong, Memory, Order, Write}
+use Rattle.rs_words.specs.Certifying.{IsOfBytes, bytes_of, bytes_run, cert_after, certified, certified_after, certified_behind, few_rows, joined_bytes, side_after}
+use Rattle.rs_words.specs.Drawing.{AreDrawn, DrawsAsCertified}
 use Rattle.rs_words.specs.Faults.{put_faults}
-use Rattle.rs_words.specs.Joining.{IsDrawnOfTable, IsJoining, fault_of, join_fault}
-use Rattle.rs_words.proofs.DrawingFacts.{answer-pair}
+use Rattle.rs_words.specs.Gathering.{GivesAll, StopsShort}
+use Rattle.rs_words.specs.Joining.{IsDrawnOfTable, IsJoining, IsOfTables, fault_of, join_fault}
+use Rattle.rs_words.specs.Putting.{AreAnswered, draws_in_all, pairs_of}
+use Rattle.rs_words.proofs.CallFacts.{fault-told}
+use Rattle.rs_words.proofs.DrawingFacts.{draws-of_bytes}
+use Rattle.rs_words.proofs.PuttingFacts.{get-behind, less-is, less-not, some-pair}
 
 -- what the draws of a side show of its feed is what the join keeps of it
 pub side-drawn : (rows : List FeedRow) (side : FeedSide) (draws : ℕ) → BeginsWith rows side.rows → (side.ended ≡ true → rows ≡ side.rows) → IsCounted side → side.draws ≡ draws → side_after rows draws ≡ cert_side side
@@ -89,54 +98,63 @@ after-fault : (lefts rights : List FeedRow) (count n : ℕ) (answer : Result (Op
 after-fault lefts rights count n (Ok pair) more fault e = absurd cc
 after-fault lefts rights count n (Err why) more fault e = ap Err (let same : join_fault why ≡ fault = cc in same)
 
--- before the first call
-pub certified-first : (lefts rights : List FeedRow) (count : ℕ) → certified lefts rights count ≡ certified_behind lefts rights count 0 (count - 0)
-certified-first lefts rights count =
-    let all : count ≡ count - 0 = omega arith in ap (certified_behind lefts rights count 0) all
+-- the certificate behind n pairs, of as many as are wanted, that come without a fault
+module _ (lefts rights : List FeedRow) (count : ℕ) where
+  -- the next call
+  here-from : (n : ℕ) → n < count → certified lefts rights count ≡ certified_behind lefts rights count n (count - n)
+      → certified lefts rights count ≡ certified_after lefts rights count n (next_answer lefts rights n) (certified_behind lefts rights count (suc n) (count - suc n))
+  here-from n within so_far =
+      let left : count - n ≡ suc (count - suc n) = omega (arith, within) in
+      so_far ∙ ap (certified_behind lefts rights count n) left ∙ certified-more lefts rights count n (count - suc n)
 
-module _ (lefts rights : List FeedRow) (count place : ℕ) (so_far : certified lefts rights count ≡ certified_behind lefts rights count place (count - place)) where
-  module _ (within : place < count) where
-    here : certified lefts rights count ≡ certified_after lefts rights count place (next_answer lefts rights place) (certified_behind lefts rights count (suc place) (count - (place + 1)))
-    here =
-        let left : count - place ≡ suc (count - (place + 1)) = omega arith in
-        so_far ∙ ap (certified_behind lefts rights count place) left ∙ certified-more lefts rights count place (count - (place + 1))
+  certified-from : (n : ℕ) → n ≤ count → n ≤ length (pairs_of lefts rights) → AreAnswered lefts rights n → certified lefts rights count ≡ certified_behind lefts rights count n (count - n)
+  certified-from zero within gave answered = let all : count ≡ count - 0 = omega arith in ap (certified_behind lefts rights count 0) all
+  certified-from (suc n) within gave answered =
+      let found = some-pair (pairs_of lefts rights) n (omega (arith, gave)) in
+      here-from n (omega (arith, within)) (certified-from n (omega (arith, within)) (omega (arith, gave)) (λ i h. answered i (omega (arith, h))))
+      ∙ ap (λ a. certified_after lefts rights count n a (certified_behind lefts rights count (suc n) (count - suc n))) (answered n (omega arith) ∙ ap Ok found.1)
 
-    -- one pair more was given
-    pub certified-next : (pair : FeedPair) → next_answer lefts rights place ≡ Ok (Some pair) → certified lefts rights count ≡ certified_behind lefts rights count (place + 1) (count - (place + 1))
-    certified-next pair answer =
-        let next : suc place ≡ place + 1 = omega arith in
-        here ∙ ap (λ a. certified_after lefts rights count place a (certified_behind lefts rights count (suc place) (count - (place + 1)))) answer
-        ∙ ap (λ n. certified_behind lefts rights count n (count - (place + 1))) next
+  here : (n : ℕ) → n < count → n ≤ length (pairs_of lefts rights) → AreAnswered lefts rights n
+      → certified lefts rights count ≡ certified_after lefts rights count n (next_answer lefts rights n) (certified_behind lefts rights count (suc n) (count - suc n))
+  here n within gave answered = here-from n within (certified-from n (omega (arith, within)) gave answered)
 
-    -- there was none
-    pub certified-end : next_answer lefts rights place ≡ Ok None → certified lefts rights count ≡ Ok (cert_after lefts rights count place (asks_of_cuts lefts rights place))
-    certified-end answer = here ∙ ap (λ a. certified_after lefts rights count place a (certified_behind lefts rights count (suc place) (count - (place + 1)))) answer
+  -- what was gathered is the certificate
+  pub certified-given : (state : FeedJoinState) (left right : TableFeedState) (pairs : List (ℕ × ℕ)) → left.rows ≡ lefts → right.rows ≡ rights → IsJoining state left right
+      → IsCounted state.left → IsCounted state.right → GivesAll lefts rights count pairs state → certified lefts rights count ≡ Ok (cert_of state count pairs)
+  certified-given state left right pairs left_rows right_rows joining left_counted right_counted gives = go (nat_lt (length all) count) refl where
+    all : List FeedPair
+    all = pairs_of lefts rights
 
-    -- the call ended with a fault
-    pub certified-fault : (fault : WordFault) → (fault ≡ Memory) ⊎ (fault_of (next_answer lefts rights place) ≡ Some fault) → (fault ≡ Memory) ⊎ (certified lefts rights count ≡ Err fault)
-    certified-fault fault (inl e) = inl e
-    certified-fault fault (inr e) = inr (here ∙ after-fault lefts rights count place (next_answer lefts rights place) (certified_behind lefts rights count (suc place) (count - (place + 1))) fault e)
+    shown : (n m : ℕ) → min count (suc (length all)) ≡ m → pairs ≡ numbers_in (take n all) → cert_after lefts rights count n (asks_of_rows (cut lefts) (cut rights) m) ≡ cert_of state count pairs
+    shown n m wanted are =
+        cert-shown lefts rights count n (asks_of_rows (cut lefts) (cut rights) m) state left right pairs left_rows right_rows joining left_counted right_counted
+        (subst (λ k. HasDrawn (asks_of_rows (cut lefts) (cut rights) k) state.left state.right) wanted gives.drawn) are
 
-  -- all that were wanted were given
-  pub certified-all : place ≡ count → certified lefts rights count ≡ Ok (cert_after lefts rights count place (asks_of_rows (cut lefts) (cut rights) place))
-  certified-all all =
-      let none : count - place ≡ 0 = omega arith in
-      so_far ∙ ap (certified_behind lefts rights count place) none ∙ certified-none lefts rights count place
+    go : (fewer : Bool) → nat_lt (length all) count ≡ fewer → certified lefts rights count ≡ Ok (cert_of state count pairs)
+    go false is =
+        let most = less-not (length all) count is in
+        let wanted : min count (suc (length all)) ≡ count = omega (arith, most) in
+        let none : count - count ≡ 0 = omega arith in
+        certified-from count (omega arith) most (subst (AreAnswered lefts rights) wanted gives.answered)
+        ∙ ap (certified_behind lefts rights count count) none ∙ certified-none lefts rights count count
+        ∙ ap Ok (shown count count wanted gives.pairs)
+    go true is =
+        let few = less-is (length all) count is in
+        let wanted : min count (suc (length all)) ≡ suc (length all) = omega (arith, few) in
+        let answered = subst (AreAnswered lefts rights) wanted gives.answered in
+        here (length all) few (omega arith) (λ i h. answered i (omega (arith, h)))
+        ∙ ap (λ a. certified_after lefts rights count (length all) a (certified_behind lefts rights count (suc (length all)) (count - suc (length all)))) (answered (length all) (omega arith) ∙ ap Ok (get-behind all))
+        ∙ ap Ok (shown (length all) (suc (length all)) wanted
+        (gives.pairs ∙ ap numbers_in (take_all count all (omega (arith, few)) ∙ sym (take_all (length all) all (omega arith)))))
 
--- something of a call at a place, with the rows and the place by other names
-pub at-place : (P : List FeedRow → List FeedRow → ℕ → Type 0) (lefts rights lefts' rights' : List FeedRow) (n place : ℕ) → lefts' ≡ lefts → rights' ≡ rights → n ≡ place → P lefts' rights' n → P lefts rights place
-at-place P lefts rights lefts' rights' n place l r e is = subst (λ n. P lefts rights n) e (subst (λ xs. P lefts xs n) r (subst (λ xs. P xs rights' n) l is))
-
--- the pairs by their numbers, and the next one behind them
-pub pairs-next : (lefts rights : List FeedRow) (n : ℕ) (pair : FeedPair) (pairs : List (ℕ × ℕ)) → next_answer lefts rights n ≡ Ok (Some pair) → pairs ≡ numbers_in (take n (joined_pairs (cut lefts) (cut rights)))
-    → pairs ++ (pair.left, pair.right) ∷ [] ≡ numbers_in (take (n + 1) (joined_pairs (cut lefts) (cut rights)))
-pairs-next lefts rights n pair pairs answer are =
-    let all = joined_pairs (cut lefts) (cut rights) in
-    let next : suc n ≡ n + 1 = omega arith in
-    ap (λ list. list ++ (pair.left, pair.right) ∷ []) are
-    ∙ sym (map-append (λ (p : FeedPair). (p.left, p.right)) (take n all) (pair ∷ []))
-    ∙ ap numbers_in (sym (take-snoc n all pair (answer-pair lefts rights n (Some pair) answer)))
-    ∙ ap (λ m. numbers_in (take m all)) next
+  -- what ended the join
+  pub certified-stopped : (why : JoinFault) (state : FeedJoinState) → IsOfTables why → StopsShort lefts rights count why state → (join_fault why ≡ Memory) ⊎ (certified lefts rights count ≡ Err (join_fault why))
+  certified-stopped why state of (inr short) = inl (ap join_fault short.0)
+  certified-stopped why state of (inl stops) = elim (fault-told lefts rights stops.n state.left state.right why of stops.next) [
+    | inl e ↦ inl e
+    | inr e ↦ inr (here stops.n stops.within stops.gave stops.answered
+        ∙ after-fault lefts rights count stops.n (next_answer lefts rights stops.n) (certified_behind lefts rights count (suc stops.n) (count - suc stops.n)) (join_fault why) e)
+  ]
 
 -- a side that isn't refused is few
 pub few-rows : (side rows : ℕ) → Ok tt ≡ few_rows side rows → rows ≤ most_rows
@@ -146,29 +164,97 @@ few-rows side rows e = go (nat_lt most_rows rows) refl e where
   go false is e = grind (arith, nat_tests, is)
 
 -- the bytes of a certificate
+module _ (cert : Cert) where
+  pub bytes-left : (fault : WordFault) → Err fault ≡ few_rows 1 (length cert.left.rows) → bytes_of cert ≡ Err fault
+  bytes-left fault e = ap (λ few. few >>= λ left. few_rows 2 (length cert.right.rows) >>= λ right. Ok (written cert)) (sym e)
+
+  module _ (l : Ok tt ≡ few_rows 1 (length cert.left.rows)) where
+    bytes-second : bytes_of cert ≡ (few_rows 2 (length cert.right.rows) >>= λ right. Ok (written cert))
+    bytes-second = ap (λ few. few >>= λ left. few_rows 2 (length cert.right.rows) >>= λ right. Ok (written cert)) (sym l)
+
+    pub bytes-right : (fault : WordFault) → Err fault ≡ few_rows 2 (length cert.right.rows) → bytes_of cert ≡ Err fault
+    bytes-right fault e = bytes-second ∙ ap (λ few. few >>= λ right. Ok (written cert)) (sym e)
+
+    pub bytes-both : Ok tt ≡ few_rows 2 (length cert.right.rows) → bytes_of cert ≡ Ok (written cert)
+    bytes-both e = bytes-second ∙ ap (λ few. few >>= λ right. Ok (written cert)) (sym e)
+
+-- a side that is too long tells itself
+pub few-fault : (side rows : ℕ) (fault : WordFault) → Err fault ≡ few_rows side rows → fault ≡ CertTooLong side
+few-fault side rows fault e = go (nat_lt most_rows rows) e where
+  go : (many : Bool) → ◌≡◌ {A = Result (Unit {0}) WordFault} (Err fault) (cond many (Err (CertTooLong side)) (Ok tt)) → fault ≡ CertTooLong side
+  go true e = cc
+  go false e = absurd (cc)
+
+-- the bytes of what was certified
 module _ (lefts rights : List FeedRow) (count : ℕ) where
   pub bytes-unjoined : (fault : WordFault) → (fault ≡ Memory) ⊎ (certified lefts rights count ≡ Err fault) → (fault ≡ Memory) ⊎ (joined_bytes lefts rights count ≡ Err fault)
   bytes-unjoined fault (inl e) = inl e
   bytes-unjoined fault (inr e) = inr (ap (λ cert. cert >>= bytes_of) e)
 
   module _ (cert : Cert) (is : certified lefts rights count ≡ Ok cert) where
-    bytes-are : joined_bytes lefts rights count ≡ (few_rows 1 (length cert.left.rows) >>= λ left. few_rows 2 (length cert.right.rows) >>= λ right. Ok (written cert))
-    bytes-are = ap (λ cert. cert >>= bytes_of) is
+    pub bytes-joined : (bytes : List ℕ) → bytes_of cert ≡ Ok bytes → joined_bytes lefts rights count ≡ Ok bytes
+    bytes-joined bytes e = ap (λ cert. cert >>= bytes_of) is ∙ e
 
-    pub bytes-left : (fault : WordFault) → Err fault ≡ few_rows 1 (length cert.left.rows) → joined_bytes lefts rights count ≡ Err fault
-    bytes-left fault e = bytes-are ∙ ap (λ few. few >>= λ left. few_rows 2 (length cert.right.rows) >>= λ right. Ok (written cert)) (sym e)
+    pub bytes-refused : (fault : WordFault) → (fault ≡ Memory) ⊎ (bytes_of cert ≡ Err fault) → (fault ≡ Memory) ⊎ (joined_bytes lefts rights count ≡ Err fault)
+    bytes-refused fault (inl e) = inl e
+    bytes-refused fault (inr e) = inr (ap (λ cert. cert >>= bytes_of) is ∙ e)
 
-    pub bytes-right : (fault : WordFault) → Ok tt ≡ few_rows 1 (length cert.left.rows) → Err fault ≡ few_rows 2 (length cert.right.rows) → joined_bytes lefts rights count ≡ Err fault
-    bytes-right fault l e =
-        bytes-are ∙ ap (λ few. few >>= λ left. few_rows 2 (length cert.right.rows) >>= λ right. Ok (written cert)) (sym l)
-        ∙ ap (λ few. few >>= λ right. Ok (written cert)) (sym e)
+-- faults that are none of the order
+pub of-bytes-order : (fault : WordFault) → IsOfBytes fault → (side row before got : ℕ) → fault ≡ Order side row before got → ⊥
+of-bytes-order fault (inl e) side row before got is = absurd (let f : Memory ≡ Order side row before got = sym e ∙ is in cc)
+of-bytes-order fault (inr e) side row before got is = absurd (let f : CertTooLong e.0 ≡ Order side row before got = sym e.1 ∙ is in cc)
 
-    pub bytes-both : Ok tt ≡ few_rows 1 (length cert.left.rows) → Ok tt ≡ few_rows 2 (length cert.right.rows) → joined_bytes lefts rights count ≡ Ok (written cert)
-    bytes-both l r =
-        bytes-are ∙ ap (λ few. few >>= λ left. few_rows 2 (length cert.right.rows) >>= λ right. Ok (written cert)) (sym l)
-        ∙ ap (λ few. few >>= λ right. Ok (written cert)) (sym r)
+-- a put of lines ends with one of two faults
+pub put-order : (lines : List (List ℕ)) (fault : WordFault) (old new : Environment) → Ran put_faults (lines_run lines) (Err fault) old new → (side row before got : ℕ) → fault ≡ Order side row before got → ⊥
+put-order lines fault old new ran side row before got is = go ran.halt ran.fault ran.is_fault ran.answers where
+  no-memory : ◌≡◌ {A = Result (Unit {0}) WordFault} (Err fault) (Err Memory) → ⊥
+  no-memory e = absurd (let f : Order side row before got ≡ Memory = sym is ∙ (let same : fault ≡ Memory = cc in same) in cc)
+
+  no-write : ◌≡◌ {A = Result (Unit {0}) WordFault} (Err fault) (Err Write) → ⊥
+  no-write e = absurd (let f : Order side row before got ≡ Write = sym is ∙ (let same : fault ≡ Write = cc in same) in cc)
+
+  by : (own : WordFault) → (own ≡ Memory) ⊎ (own ≡ Write) → Answers Memory (Some own) (Err fault) → ⊥
+  by own (inl e) (inl a) = no-memory (a ∙ ap Err e)
+  by own (inr e) (inl a) = no-write (a ∙ ap Err e)
+  by own which (inr a) = no-memory a
+
+  some : (own : Option WordFault) (told : WordFault) → own ≡ Some told → (told ≡ Memory) ⊎ (told ≡ Write) → Answers Memory own (Err fault) → ⊥
+  some own told e which answers = by told which (subst (λ o. Answers Memory o (Err fault)) e answers)
+
+  go : (halt : Halt) (own : Option WordFault) → IsFaultOf put_faults None halt own → Answers Memory own (Err fault) → ⊥
+  go Ended own e answers = absurd (let a = subst (λ o. Answers Memory o (Err fault)) e answers in cc)
+  go NoMemory own e answers = some own Memory e (inl refl) answers
+  go (PutFailed part) own e answers = some own Write e (inr refl) answers
+  go (FetchFailed name) own e answers = absurd e.1
+  go (CallFailed call) own e answers = some own Memory e (inl refl) answers
 
 -- bytes that there are none of
 pub bytes-fault : (bytes : Result (List ℕ) WordFault) (fault : WordFault) (at : Environment) → (fault ≡ Memory) ⊎ (bytes ≡ Err fault) → Ran put_faults (bytes_run bytes) (Err fault) at at
 bytes-fault bytes fault at (inl e) = subst (λ f. Ran put_faults (bytes_run bytes) (Err f) at at) (sym e) (Ran-first (bytes_run bytes) at)
 bytes-fault bytes fault at (inr e) = subst (λ b. Ran put_faults (bytes_run b) (Err fault) at at) (sym e) (Ran-all (fails fault) (Err fault) at at (HasDone-none at) (inl refl))
+
+-- an environment, whichever it is
+pub some-environment : Environment
+some-environment = record {
+  files = disk_state (record { faults = 0; last = None });
+  scorer = record { answer = λ predicate values. pos 0; calls = 0; outside = untold 0 };
+  out = untold 0;
+  err = untold 0;
+  references = (0, 0, 0);
+}
+
+-- the bytes of what was certified, and how it ended
+module _ {B : Type 0} (items : B → List ℕ) (lefts rights : List FeedRow) (count : ℕ) (cert : Cert) (is : certified lefts rights count ≡ Ok cert) where
+  pub bytes-of-cert : (result : Result B WordFault) → MatchResult result (λ bytes. bytes_of cert ≡ Ok (items bytes)) (λ fault. (fault ≡ Memory) ⊎ (bytes_of cert ≡ Err fault))
+      → MatchResult result (λ bytes. joined_bytes lefts rights count ≡ Ok (items bytes)) (λ fault. (fault ≡ Memory) ⊎ (joined_bytes lefts rights count ≡ Err fault))
+  bytes-of-cert (Ok bytes) e = bytes-joined lefts rights count cert is (items bytes) e
+  bytes-of-cert (Err fault) e = bytes-refused lefts rights count cert is fault e
+
+module _ (lefts rights : List FeedRow) (count : ℕ) (left right : TableFeedState) (drawn : AreDrawn (draws_in_all lefts rights count) left right) where
+  pub draws-of-result : (B : Type 0) (result : Result B WordFault) → IfErr result (λ fault. IsOfBytes fault) → DrawsAsCertified {A = B} lefts rights count result left right
+  draws-of-result B (Ok bytes) of = drawn
+  draws-of-result B (Err fault) of = draws-of_bytes B lefts rights count fault left right (of-bytes-order fault of) drawn
+
+  pub draws-of-put : (lines : List (List ℕ)) (result : Result (Unit {0}) WordFault) (old new : Environment) → Ran put_faults (lines_run lines) result old new → DrawsAsCertified {A = Unit {0}} lefts rights count result left right
+  draws-of-put lines (Ok done) old new ran = drawn
+  draws-of-put lines (Err fault) old new ran = draws-of_bytes (Unit {0}) lefts rights count fault left right (put-order lines fault old new ran) drawn

@@ -2,8 +2,7 @@
 use Rattle.std.proofs.Common.{ℕ, ◌≡◌, ◌∙◌, ◌<◌, ◌≤◌, ◌^◌, List, [], ◌∷◌, length, Option, Result, Ok, Err, MatchResult, refl, sym, ap, subst, inl, inr, arith}
 use Rattle.std.specs.declared.alloc.Global.{Global}
 use Rattle.std.specs.declared.vec.Vec.{Vec}
-use Rattle.rs_value.specs.Outside.{Outside}
-use Rattle.rs_outside.specs.Files.{FilesTold}
+use Rattle.rs_outside.specs.Files.{FilesState, Finds, finds_in}
 use Rattle.rs_outside.specs.declared.files.FetchFault.TheVariants as fetch
 use Rattle.rs_cert.specs.declared.cert.Cert.{Cert}
 use Rattle.rs_cert.specs.declared.verdict.Verdict.{Verdict}
@@ -12,13 +11,13 @@ use Rattle.rs_cert.specs.Records.{AreRecordsOf, IsForm}
 use Rattle.rs_cert.specs.Verdicts.{IsVerdict}
 use Rattle.rs_cert.proofs.CsvFacts.{few-records}
 use Rattle.rs_events.specs.Environment.{Environment}
-use Rattle.rs_events.specs.Events.{Fetch, Finds, calls, finds_in}
+use Rattle.rs_events.specs.Events.{Fetch, calls}
 use Rattle.rs_events.specs.Fetching.{FetchesFile, fetched_bytes}
 use Rattle.rs_events.specs.HaltFaults.{IsFaultOf}
 use Rattle.rs_events.specs.Halts.{CallFailed, Ended, FetchFailed, Halt, NoMemory, PutFailed}
 use Rattle.rs_events.specs.Run.{Run, behind, fails, lines_run}
 use Rattle.rs_events.specs.Running.{Ran, Runs}
-use Rattle.rs_events.proofs.FetchFacts.{Ran-unfetched, fetched-ok}
+use Rattle.rs_events.proofs.FetchFacts.{Ran-unfetched, fetched-ok, found-before}
 use Rattle.rs_events.proofs.OneRun.{OneFile}
 use Rattle.rs_events.proofs.RanFacts.{HasDone-none, Ran-all, Ran-behind, Ran-first}
 use Rattle.rs_words.specs.declared.fault.WordFault.{WordFault}
@@ -94,15 +93,15 @@ abbrev pub IsBytesOf : Option (List ℕ) → Result (Vec ℕ Global) WordFault �
 IsBytesOf there result =
     MatchResult result (λ bytes. or_read 1 (fetched_bytes file_limit there) ≡ Ok bytes.items) (λ fault. or_read 1 (fetched_bytes file_limit there) ≡ Err fault)
 
-module _ (file : List ℕ) (environment : Environment) (files : Outside FilesTold) where
+module _ (file : List ℕ) (environment : Environment) (files : FilesState) where
   -- the file was not read
   pub Ran-unread : (fault : WordFault) → FetchesFile {A = Vec ℕ Global} Memory (λ why. why ≡ Read 1 fetch.Failed) file (Err fault) IsBytesOf environment.files files
-      → Runs (file_faults file) (IsCheckRun (finds_in environment.files.told) file) (Err fault) environment (record environment { files = files })
+      → Runs (file_faults file) (IsCheckRun (finds_in environment.files.contents) file) (Err fault) environment (record environment { files = files })
   unfolding fetches-loosely
   Ran-unread fault f =
       let more = some-read_run (or_read 1 (fetched_bytes file_limit f.there)) in record {
         run = behind (Fetch file ∷ []) more.0;
-        is = (f.there, f.is_told, more.0, more.1, refl);
+        is = (f.there, found-before file _ _ environment.files files f, more.0, more.1, refl);
         ran = Ran-unfetched environment files file fault IsBytesOf (behind (Fetch file ∷ []) more.0) more.0.events
             (fetches-loosely {A = Vec ℕ Global} file (Err fault) IsBytesOf environment.files files (λ why is. (refl, is)) f) refl
             (λ given. ap (behind (Fetch file ∷ [])) (read-err (or_read 1 (fetched_bytes file_limit f.there)) more.0 fault more.1 given));
@@ -110,11 +109,11 @@ module _ (file : List ℕ) (environment : Environment) (files : Outside FilesTol
 
   -- it was read
   pub Ran-checked : (bytes : Vec ℕ Global) (result : Result (Unit {0}) WordFault) (new : Environment) → FetchesFile {A = Vec ℕ Global} Memory (λ why. why ≡ Read 1 fetch.Failed) file (Ok bytes) IsBytesOf environment.files files
-      → Runs put_faults (IsCheckedRun bytes.items) result (record environment { files = files }) new → Runs (file_faults file) (IsCheckRun (finds_in environment.files.told) file) result environment new
+      → Runs put_faults (IsCheckedRun bytes.items) result (record environment { files = files }) new → Runs (file_faults file) (IsCheckRun (finds_in environment.files.contents) file) result environment new
   Ran-checked bytes result new f made =
       let read = fetched-ok environment files file bytes IsBytesOf f in record {
         run = behind (Fetch file ∷ []) made.run;
-        is = (f.there, f.is_told, made.run, subst (λ b. IsReadRun b made.run) (sym read.given) made.is, refl);
+        is = (f.there, found-before file _ _ environment.files files f, made.run, subst (λ b. IsReadRun b made.run) (sym read.given) made.is, refl);
         ran = Ran-behind (Fetch file ∷ []) made.run result environment (record environment { files = files }) new read.has
             (Ran-puts file made.run result (record environment { files = files }) new made.ran);
       }

@@ -14,7 +14,7 @@ use Rattle.rs_feed_join.specs.declared.fault.JoinFault.{JoinFault}
 use Rattle.rs_feed_join.specs.declared.fault.JoinFault.TheVariants as join
 use Rattle.rs_feed_join.specs.declared.feed_pair.FeedPair.{FeedPair}
 use Rattle.rs_feed_join.specs.Answers.{next_answer}
-use Rattle.rs_events.specs.Events.{Finds}
+use Rattle.rs_outside.specs.Files.{Finds}
 use Rattle.rs_events.specs.Fetching.{fetched_bytes}
 use Rattle.rs_events.specs.Run.{Run}
 use Rattle.rs_words.specs.declared.fault.WordFault.{WordFault}

@@ -4,7 +4,8 @@ use Rattle.std.proofs.lemmas.Bool.{le-leb}
 use Rattle.std.proofs.lemmas.List.{length-map, length-take}
 use Rattle.std.proofs.lemmas.Option.{slice_get_within}
 use Rattle.rs_value.specs.Results.{◌>>=◌}
-use Rattle.rs_outside.specs.Files.{FilesTold, file_named}
+use Rattle.std.specs.Prelude.{IfSome}
+use Rattle.rs_outside.specs.Files.{Contents, finds_in, found_in}
 use Rattle.rs_outside.specs.declared.files.FetchFault.TheVariants.{TooLong}
 use Rattle.rs_feed.specs.declared.feed_row.FeedRow.{FeedRow}
 use Rattle.rs_cert.specs.declared.cert.Cert.{Cert}
@@ -19,10 +20,10 @@ use Rattle.rs_cert.proofs.PairFacts.{IsPair}
 use Rattle.rs_cert.proofs.WrittenFacts.{written-back}
 use Rattle.rs_cert_join.specs.Certs.{AreGiven, cert_of, cert_side, numbers_in}
 use Rattle.rs_cert_join.proofs.GoodFacts.{given-good}
-use Rattle.rs_events.specs.Events.{finds_in, puts}
+use Rattle.rs_events.specs.Events.{puts}
 use Rattle.rs_events.specs.Fetching.{fetched_bytes}
 use Rattle.rs_events.specs.Run.{Run, lines_run}
-use Rattle.rs_events.proofs.OneRun.{told-one}
+use Rattle.rs_events.proofs.OneRun.{found-one}
 use Rattle.rs_feed_join.specs.declared.feed_pair.FeedPair.{FeedPair}
 use Rattle.rs_feed_join.specs.Answers.{answer_by, asks_of_cuts, is_refused}
 use Rattle.rs_feed_join.specs.Cuts.{HaveScores, cut}
@@ -163,7 +164,7 @@ bytes-good lefts rights count bytes left right wanted e = go (certified lefts ri
       }
 
 -- what a run of the word puts is made of the rows of both files
-module _ (told : Option FilesTold) (words : FeedWords) (bytes : List ℕ) (wanted : words.count ≤ most_wanted) where
+module _ (contents : Contents) (words : FeedWords) (bytes : List ℕ) (wanted : words.count ≤ most_wanted) where
   same-put : {a b : List ℕ} → a ∷ [] ≡ b ∷ [] → a ≡ b
   same-put e = cc
 
@@ -178,22 +179,23 @@ module _ (told : Option FilesTold) (words : FeedWords) (bytes : List ℕ) (wante
   of-right lefts left (Err fault) feed put = absurd cc
   of-right lefts left (Ok rights) feed put = of-rows lefts rights left (feed rights refl) put
 
-  of-left : (lefts : Result (List FeedRow) WordFault) → ((rows : List FeedRow) → lefts ≡ Ok rows → IsFeed rows) → (more : Run WordFault) → LeftRun joined_cert_run (finds_in told) words lefts more
+  of-left : (lefts : Result (List FeedRow) WordFault) → ((rows : List FeedRow) → lefts ≡ Ok rows → IsFeed rows) → (more : Run WordFault) → LeftRun joined_cert_run (finds_in contents) words lefts more
       → puts more.events ≡ bytes ∷ [] → IsGoodCert words.count bytes
   of-left (Err fault) feed more is put = absurd (let none : [] ≡ bytes ∷ [] = sym (ap (λ (run : Run WordFault). puts run.events) is) ∙ put in cc)
   of-left (Ok lefts) feed more is put =
       of-right lefts (feed lefts refl) (feed_file 2 is.0) (λ rows e. file-feed 2 is.0 rows e) (sym (ap (λ (run : Run WordFault). puts run.events) is.2) ∙ put)
 
-  pub put-good : (run : Run WordFault) → IsCertRun (finds_in told) words run → puts run.events ≡ bytes ∷ [] → IsGoodCert words.count bytes
+  pub put-good : (run : Run WordFault) → IsCertRun (finds_in contents) words run → puts run.events ≡ bytes ∷ [] → IsGoodCert words.count bytes
   put-good run is put =
       of-left (feed_file 1 is.0) (λ rows e. file-feed 1 is.0 rows e) is.2 is.3 (sym (ap (λ (run : Run WordFault). puts run.events) is.4) ∙ put)
 
 -- a good certificate is one to which the word `check` says yes
-pub good-yes : (told : FilesTold) (file bytes : List ℕ) (wanted : ℕ) (run : Run WordFault) → IsGoodCert wanted bytes → file_named file told.folder ≡ Some bytes → length bytes ≤ file_limit
-    → IsCheckRun (finds_in (Some told)) file run → run ≡ yes_run file
-good-yes told file bytes wanted run good there within is =
-    IsCheckRun-one (finds_in (Some told)) (told-one told) file run (yes_run file) is
-    (Some bytes, there, lines_run (verdict_line Yes ∷ []), subst (λ read. IsReadRun read (lines_run (verdict_line Yes ∷ []))) (sym read) (judged good.cert Yes good.are good.good), refl)
+pub good-yes : (contents : Contents) (file bytes : List ℕ) (wanted : ℕ) (run : Run WordFault) → IsGoodCert wanted bytes → contents file ≡ Some (Some bytes) → length bytes ≤ file_limit
+    → IsCheckRun (finds_in contents) file run → run ≡ yes_run file
+good-yes contents file bytes wanted run good known within is =
+    IsCheckRun-one (found_in (λ name. Some bytes)) (found-one (λ name. Some bytes)) file run (yes_run file)
+    (is.0, subst (λ known. IfSome known (λ k. k ≡ is.0)) known is.1, is.2, is.3, is.4)
+    (Some bytes, refl, lines_run (verdict_line Yes ∷ []), subst (λ read. IsReadRun read (lines_run (verdict_line Yes ∷ []))) (sym read) (judged good.cert Yes good.are good.good), refl)
   where
     read : or_read 1 (fetched_bytes file_limit (Some bytes)) ≡ Ok bytes
     read = ap (λ few. or_read 1 (cond few (Ok bytes) (Err TooLong))) (le-leb (length bytes) file_limit within)

@@ -1,5 +1,7 @@
 pub mod RunFacts
 pub mod CallFacts
+pub mod PuttingFacts
+pub mod GatheringFacts
 pub mod FeedingFacts
 pub mod DrawingFacts
 pub mod FaultFacts

@@ -1,20 +1,19 @@
 -- The run of a word over two feeds, put together from what its parts did.
 use Rattle.std.proofs.Common.{ℕ, zero, suc, ◌≡◌, ◌∙◌, ◌⊎◌, List, [], ◌∷◌, Option, Some, None, Result, Ok, Err, refl, sym, ap, subst, inl, inr}
-use Rattle.std.specs.Prelude.{option_map}
-use Rattle.rs_value.specs.Outside.{Outside}
 use Rattle.rs_value.specs.Results.{◌>>=◌}
-use Rattle.rs_outside.specs.Files.{FilesTold, file_named}
+use Rattle.rs_outside.specs.Files.{FilesState, Finds, finds_in}
+use Rattle.rs_outside.proofs.ContentsFacts.{finds-before, finds-some}
 use Rattle.rs_outside.specs.declared.files.FetchFault.TheVariants as fetch
 use Rattle.rs_feed.specs.declared.feed_row.FeedRow.{FeedRow}
 use Rattle.rs_table_feed.specs.TableFeeds.{TableFeedState, new_feed}
 use Rattle.rs_events.specs.Environment.{Environment}
-use Rattle.rs_events.specs.Events.{Fetch, Finds, calls, finds_in}
+use Rattle.rs_events.specs.Events.{Fetch, calls}
 use Rattle.rs_events.specs.Fetching.{FetchFails, Fetched, FetchesFile, NotFetched}
 use Rattle.rs_events.specs.HaltFaults.{IsFaultOf}
-use Rattle.rs_events.specs.Halts.{CallFailed, Ended, FetchFailed, Halt, NoMemory, PutFailed, fetched_more}
+use Rattle.rs_events.specs.Halts.{CallFailed, Ended, FetchFailed, Halt, NoMemory, PutFailed}
 use Rattle.rs_events.specs.Run.{Run, behind, fails}
 use Rattle.rs_events.specs.Running.{Ran, Runs}
-use Rattle.rs_events.proofs.FetchFacts.{Ran-unfetched, fetched-ok}
+use Rattle.rs_events.proofs.FetchFacts.{Ran-unfetched, fetched-ok, found-before}
 use Rattle.rs_events.proofs.OneRun.{OneFile}
 use Rattle.rs_events.proofs.RanFacts.{Ran-behind}
 use Rattle.rs_feed_join.specs.declared.fault.JoinFault.{JoinFault}
@@ -48,9 +47,9 @@ module _ (left right : List ℕ) where
   }
 
 -- a fault of a fetch that is told more loosely
-unfoldable pub fetches-loosely : {A : Type 0} {Tells Others : WordFault → Type 0} (file : List ℕ) (result : Result A WordFault) (gives : Option (List ℕ) → Result A WordFault → Type 0) (old new : Outside FilesTold)
+unfoldable pub fetches-loosely : {A : Type 0} {Tells Others : WordFault → Type 0} (file : List ℕ) (result : Result A WordFault) (gives : Option (List ℕ) → Result A WordFault → Type 0) (old new : FilesState)
     → ((why : WordFault) → Tells why → Others why) → FetchesFile Memory Tells file result gives old new → FetchesFile Memory Others file result gives old new
-fetches-loosely {A} {Tells} {Others} file result gives old new loosely f = record { there = f.there; is_told = f.is_told; does = go f.does; keeps = f.keeps } where
+fetches-loosely {A} {Tells} {Others} file result gives old new loosely f = record { there = f.there; is_found = f.is_found; learned = f.learned; does = go f.does; keeps = f.keeps } where
   go : (NotFetched {A = A} Memory result old new ⊎ FetchFails {A = A} Memory Tells file result old new) ⊎ Fetched {A = A} Memory file (gives f.there) result old new
       → (NotFetched {A = A} Memory result old new ⊎ FetchFails {A = A} Memory Others file result old new) ⊎ Fetched {A = A} Memory file (gives f.there) result old new
   go (inl (inl nothing)) = inl (inl nothing)
@@ -60,18 +59,6 @@ fetches-loosely {A} {Tells} {Others} file result gives old new loosely f = recor
     answers = elim failed.answers [ inl told ↦ inl (told.0, loosely told.0 told.1, told.2) | inr e ↦ inr e ];
   }))
   go (inr fetched) = inr fetched
-
--- files tell under each name what is there, also after fetches
-finds-some : (told : Option FilesTold) (name : List ℕ) → (there : Option (List ℕ)) × finds_in told name there
-finds-some None name = (None, tt)
-finds-some (Some told) name = (file_named name told.folder, refl)
-
-finds-after : (before after : Option FilesTold) (names : List (List ℕ)) → after ≡ option_map (fetched_more names) before → (name : List ℕ) (there : Option (List ℕ))
-    → finds_in after name there → finds_in before name there
-finds-after before after names e name there found = go before (subst (λ told. finds_in told name there) e found) where
-  go : (told : Option FilesTold) → finds_in (option_map (fetched_more names) told) name there → finds_in told name there
-  go None found = tt
-  go (Some told) found = found
 
 -- what a file gives, of what was made of it
 bound-err : (rows : Result (List FeedRow) WordFault) (fault : WordFault) → ◌≡◌ {A = Result TableFeedState WordFault} (Err fault) (rows >>= λ rows. Ok (new_feed rows)) → rows ≡ Err fault
@@ -95,45 +82,45 @@ left-run-err : (joined : JoinRun) (finds : Finds) (words : FeedWords) (lefts : R
 left-run-err joined finds words (Ok lefts) more fault is e = absurd cc
 left-run-err joined finds words (Err own) more fault is e = is ∙ ap fails (let same : own ≡ fault = cc in same)
 
-module _ (joined : JoinRun) (words : FeedWords) (environment : Environment) (lefts : Outside FilesTold) where
+module _ (joined : JoinRun) (words : FeedWords) (environment : Environment) (lefts : FilesState) where
   -- the left file is no feed
   pub Ran-no_left : (fault : WordFault) → FetchesFile {A = TableFeedState} Memory (λ why. why ≡ Read 1 fetch.Failed) words.left (Err fault) (IsFeedFile 1) environment.files lefts
-      → Runs (feed_faults words.left words.right) (IsTwoFeedsRun joined (finds_in environment.files.told) words) (Err fault) environment (record environment { files = lefts })
+      → Runs (feed_faults words.left words.right) (IsTwoFeedsRun joined (finds_in environment.files.contents) words) (Err fault) environment (record environment { files = lefts })
   unfolding fetches-loosely
   Ran-no_left fault f =
-      let more = left-run joined (finds_in environment.files.told) words (feed_file 1 f.there) (finds-some environment.files.told words.right) in record {
+      let more = left-run joined (finds_in environment.files.contents) words (feed_file 1 f.there) (finds-some environment.files.contents words.right) in record {
         run = behind (Fetch words.left ∷ []) more.0;
-        is = (f.there, f.is_told, more.0, more.1, refl);
+        is = (f.there, found-before words.left _ _ environment.files lefts f, more.0, more.1, refl);
         ran = Ran-unfetched environment lefts words.left fault (IsFeedFile 1) (behind (Fetch words.left ∷ []) more.0) more.0.events
             (fetches-loosely {A = TableFeedState} words.left (Err fault) (IsFeedFile 1) environment.files lefts (λ why is. inl (refl, is)) f) refl
-            (λ given. ap (behind (Fetch words.left ∷ [])) (left-run-err joined (finds_in environment.files.told) words (feed_file 1 f.there) more.0 fault more.1 (bound-err (feed_file 1 f.there) fault given)));
+            (λ given. ap (behind (Fetch words.left ∷ [])) (left-run-err joined (finds_in environment.files.contents) words (feed_file 1 f.there) more.0 fault more.1 (bound-err (feed_file 1 f.there) fault given)));
       }
 
-  module _ (left : TableFeedState) (rights : Outside FilesTold) (f : FetchesFile {A = TableFeedState} Memory (λ why. why ≡ Read 1 fetch.Failed) words.left (Ok left) (IsFeedFile 1) environment.files lefts) where
+  module _ (left : TableFeedState) (rights : FilesState) (f : FetchesFile {A = TableFeedState} Memory (λ why. why ≡ Read 1 fetch.Failed) words.left (Ok left) (IsFeedFile 1) environment.files lefts) where
     middle : Environment
     middle = record environment { files = lefts }
 
     -- the run of which the left file is a feed
-    is-run : (there : Option (List ℕ)) → finds_in lefts.told words.right there
-        → IsTwoFeedsRun joined (finds_in environment.files.told) words (behind (Fetch words.left ∷ []) (behind (Fetch words.right ∷ []) (right_run joined left.rows words.count (feed_file 2 there))))
+    is-run : (there : Option (List ℕ)) → finds_in lefts.contents words.right there
+        → IsTwoFeedsRun joined (finds_in environment.files.contents) words (behind (Fetch words.left ∷ []) (behind (Fetch words.right ∷ []) (right_run joined left.rows words.count (feed_file 2 there))))
     is-run there found =
         let read = fetched-ok environment lefts words.left left (IsFeedFile 1) f in (
           f.there,
-          f.is_told,
+          found-before words.left _ _ environment.files lefts f,
           behind (Fetch words.right ∷ []) (right_run joined left.rows words.count (feed_file 2 there)),
-          subst (λ rows. LeftRun joined (finds_in environment.files.told) words rows (behind (Fetch words.right ∷ []) (right_run joined left.rows words.count (feed_file 2 there)))) (sym (bound-ok (feed_file 1 f.there) left read.given))
-              (there, finds-after environment.files.told lefts.told (words.left ∷ []) read.has.all.fetched words.right there found, refl),
+          subst (λ rows. LeftRun joined (finds_in environment.files.contents) words rows (behind (Fetch words.right ∷ []) (right_run joined left.rows words.count (feed_file 2 there)))) (sym (bound-ok (feed_file 1 f.there) left read.given))
+              (there, finds-before environment.files.contents lefts.contents f.keeps.contents words.right there found, refl),
           refl,
         )
 
     -- the right file is no feed
     pub Ran-no_right : (fault : WordFault) → FetchesFile {A = TableFeedState} Memory (λ why. why ≡ Read 2 fetch.Failed) words.right (Err fault) (IsFeedFile 2) lefts rights
-        → Runs (feed_faults words.left words.right) (IsTwoFeedsRun joined (finds_in environment.files.told) words) (Err fault) environment (record environment { files = rights })
+        → Runs (feed_faults words.left words.right) (IsTwoFeedsRun joined (finds_in environment.files.contents) words) (Err fault) environment (record environment { files = rights })
     unfolding middle fetches-loosely
     Ran-no_right fault s =
         let read = fetched-ok environment lefts words.left left (IsFeedFile 1) f in record {
           run = behind (Fetch words.left ∷ []) (behind (Fetch words.right ∷ []) (right_run joined left.rows words.count (feed_file 2 s.there)));
-          is = is-run s.there s.is_told;
+          is = is-run s.there (found-before words.right _ _ lefts rights s);
           ran = Ran-behind (Fetch words.left ∷ []) (behind (Fetch words.right ∷ []) (right_run joined left.rows words.count (feed_file 2 s.there))) (Err fault) environment middle (record environment { files = rights }) read.has
               (Ran-unfetched middle rights words.right fault (IsFeedFile 2) (behind (Fetch words.right ∷ []) (right_run joined left.rows words.count (feed_file 2 s.there))) (right_run joined left.rows words.count (feed_file 2 s.there)).events
               (fetches-loosely {A = TableFeedState} words.right (Err fault) (IsFeedFile 2) lefts rights (λ why is. inr (refl, is)) s) refl
@@ -143,7 +130,7 @@ module _ (joined : JoinRun) (words : FeedWords) (environment : Environment) (lef
     -- both are
     pub Ran-joined : (right : TableFeedState) (result : Result (Unit {0}) WordFault) (new : Environment) → FetchesFile {A = TableFeedState} Memory (λ why. why ≡ Read 2 fetch.Failed) words.right (Ok right) (IsFeedFile 2) lefts rights
         → Ran put_faults (joined left.rows right.rows words.count) result (record environment { files = rights }) new
-        → Runs (feed_faults words.left words.right) (IsTwoFeedsRun joined (finds_in environment.files.told) words) result environment new
+        → Runs (feed_faults words.left words.right) (IsTwoFeedsRun joined (finds_in environment.files.contents) words) result environment new
     unfolding middle
     Ran-joined right result new s ran =
         let read = fetched-ok environment lefts words.left left (IsFeedFile 1) f in
@@ -151,7 +138,7 @@ module _ (joined : JoinRun) (words : FeedWords) (environment : Environment) (lef
         let rest = subst (λ rows. Ran (feed_faults words.left words.right) (right_run joined left.rows words.count rows) result (record environment { files = rights }) new) (sym (bound-ok (feed_file 2 s.there) right other.given))
         (Ran-puts words.left words.right (joined left.rows right.rows words.count) result (record environment { files = rights }) new ran) in record {
           run = behind (Fetch words.left ∷ []) (behind (Fetch words.right ∷ []) (right_run joined left.rows words.count (feed_file 2 s.there)));
-          is = is-run s.there s.is_told;
+          is = is-run s.there (found-before words.right _ _ lefts rights s);
           ran = Ran-behind (Fetch words.left ∷ []) (behind (Fetch words.right ∷ []) (right_run joined left.rows words.count (feed_file 2 s.there))) result environment middle new read.has
               (Ran-behind (Fetch words.right ∷ []) (right_run joined left.rows words.count (feed_file 2 s.there)) result middle (record environment { files = rights }) new other.has rest);
         }

@@ -1,5 +1,5 @@
 -- The word `cert`: the certificate of the first pairs of the join of two feeds.
-use Rattle.std.specs.Prelude.{ℕ, zero, suc, nat_lt, List, [], ◌∷◌, length, take, Option, Some, None, Result, Ok, Err, if◌then◌else◌}
+use Rattle.std.specs.Prelude.{ℕ, zero, suc, ◌≡◌, ◌⊎◌, nat_lt, List, [], ◌∷◌, length, take, Option, Some, None, Result, Ok, Err, if◌then◌else◌}
 use Rattle.rs_value.specs.Results.{◌>>=◌}
 use Rattle.rs_cert.specs.declared.cert.Cert.{Cert}
 use Rattle.rs_cert.specs.declared.cert.CertSide.{CertSide}
@@ -14,10 +14,10 @@ use Rattle.rs_feed_join.specs.Cuts.{cut}
 use Rattle.rs_feed_join.specs.Pairs.{joined_pairs}
 use Rattle.rs_feed_join.specs.Ranked.{asks_of_rows}
 use Rattle.rs_order.specs.Schedule.{Left, Right, SideAsk, asked}
-use Rattle.rs_events.specs.Events.{Finds}
+use Rattle.rs_outside.specs.Files.{Finds}
 use Rattle.rs_events.specs.Run.{Run, fails, lines_run}
 use Rattle.rs_words.specs.declared.fault.WordFault.{WordFault}
-use Rattle.rs_words.specs.declared.fault.WordFault.TheVariants.{CertTooLong}
+use Rattle.rs_words.specs.declared.fault.WordFault.TheVariants.{CertTooLong, Memory}
 use Rattle.rs_words.specs.Joining.{join_fault}
 use Rattle.rs_words.specs.TwoFeeds.{FeedWords, IsTwoFeedsRun}
 
@@ -59,6 +59,10 @@ bytes_of cert = do
   left ← few_rows 1 (length cert.left.rows)
   right ← few_rows 2 (length cert.right.rows)
   Ok (written cert)
+
+-- the faults that come of these bytes, and not of a join
+abbrev pub IsOfBytes : WordFault → Type 0
+IsOfBytes fault = (fault ≡ Memory) ⊎ ((side : ℕ) × (fault ≡ CertTooLong side))
 
 abbrev pub joined_bytes : List FeedRow → List FeedRow → ℕ → Result (List ℕ) WordFault
 joined_bytes lefts rights count = certified lefts rights count >>= bytes_of

@@ -7,7 +7,8 @@ use Rattle.rs_cert.specs.declared.verdict.Verdict.TheVariants.{Yes, Order, Pairs
 use Rattle.rs_cert.specs.Csv.{records_of}
 use Rattle.rs_cert.specs.Records.{AreRecordsOf, IsForm}
 use Rattle.rs_cert.specs.Verdicts.{IsVerdict}
-use Rattle.rs_events.specs.Events.{Fetch, Finds}
+use Rattle.rs_events.specs.Events.{Fetch}
+use Rattle.rs_outside.specs.Files.{Finds}
 use Rattle.rs_events.specs.Fetching.{fetched_bytes}
 use Rattle.rs_events.specs.Run.{Run, behind, fails, lines_run}
 use Rattle.rs_words.specs.declared.fault.WordFault.{WordFault}

@@ -1,12 +1,9 @@
 -- How often two feeds were drawn for the pairs that were put, also where a put failed.
-use Rattle.std.specs.Prelude.{ℕ, zero, suc, ◌≡◌, ◌<◌, ◌⊎◌, min, List, [], ◌∷◌, ◌++◌, length, map, slice_get, Option, Some, None, Result, Ok, Err}
+use Rattle.std.specs.Prelude.{ℕ, suc, ◌≡◌, ◌<◌, ◌⊎◌, min, List, [], ◌∷◌, length, map, Some, Result, Ok, Err}
 use Rattle.rs_feed.specs.declared.feed_row.FeedRow.{FeedRow}
 use Rattle.rs_table_feed.specs.TableFeeds.{TableFeedState}
 use Rattle.rs_feed_join.specs.declared.feed_pair.FeedPair.{FeedPair}
 use Rattle.rs_feed_join.specs.Answers.{asks_of_cuts, draws_for, next_answer}
-use Rattle.rs_feed_join.specs.Cuts.{cut}
-use Rattle.rs_feed_join.specs.Pairs.{joined_pairs}
-use Rattle.rs_feed_join.specs.Ranked.{asks_of_rows}
 use Rattle.rs_order.specs.Schedule.{Left, Right, SideAsk, asked}
 use Rattle.rs_ripple.specs.Stands.{BeginsWith}
 use Rattle.rs_events.specs.Environment.{Environment}
@@ -14,10 +11,11 @@ use Rattle.rs_events.specs.Events.{Put}
 use Rattle.rs_events.specs.Run.{lines_run}
 use Rattle.rs_events.specs.Running.{HasDone, Ran}
 use Rattle.rs_words.specs.declared.fault.WordFault.{WordFault}
-use Rattle.rs_words.specs.declared.fault.WordFault.TheVariants.{Order}
+use Rattle.rs_words.specs.declared.fault.WordFault.TheVariants.{Memory, Order}
 use Rattle.rs_words.specs.Faults.{put_faults}
 use Rattle.rs_words.specs.Feeding.{draws_run}
 use Rattle.rs_words.specs.Lines.{pair_line}
+use Rattle.rs_words.specs.Putting.{AreAnswered, draws_in_all, first_lines, pairs_of}
 
 -- so often both feeds were drawn
 pub record AreDrawn (made : List SideAsk) (left right : TableFeedState) : Type 0 where
@@ -29,24 +27,6 @@ pub record DrewFront (all : List SideAsk) (left right : TableFeedState) : Type 0
   pub made : List SideAsk
   pub begins : BeginsWith all made
   pub drawn : AreDrawn made left right
-
--- the pairs of both fronts
-abbrev pub pairs_of : List FeedRow → List FeedRow → List FeedPair
-pairs_of lefts rights = joined_pairs (cut lefts) (cut rights)
-
--- the draws that this many pairs take, or all pairs and the end behind them, where there are fewer
-abbrev pub draws_in_all : List FeedRow → List FeedRow → ℕ → List SideAsk
-draws_in_all lefts rights count = asks_of_rows (cut lefts) (cut rights) (min count (suc (length (pairs_of lefts rights))))
-
--- the line of a pair, where there is one
-abbrev pub line_at : ℕ → Option FeedPair → List (List ℕ)
-line_at rank None = []
-line_at rank (Some pair) = pair_line rank pair ∷ []
-
--- the lines of the first n pairs
-abbrev pub first_lines : List FeedPair → ℕ → List (List ℕ)
-first_lines pairs zero = []
-first_lines pairs (suc n) = first_lines pairs n ++ line_at (suc n) (slice_get pairs n)
 
 -- what a call of the join drew that ended with this fault behind n pairs: all up to the row out of order; or, where there was no memory, a front of what
 -- the next pair takes
@@ -89,3 +69,19 @@ abbrev pub DrawsAsPut : List FeedRow → List FeedRow → ℕ → Result (Unit {
 DrawsAsPut lefts rights count (Ok done) left right old new = AreDrawn (draws_in_all lefts rights count) left right
 DrawsAsPut lefts rights count (Err fault) left right old new =
     StopsBehind lefts rights count fault left right old new ⊎ StopsAtDraws lefts rights count fault left right old new
+
+-- behind n pairs, of as many as a certificate is to have, a call of the join ended with this fault
+pub record StopsCertifying (lefts rights : List FeedRow) (count : ℕ) (fault : WordFault) (left right : TableFeedState) : Type 0 where
+  pub n : ℕ
+  pub within : n < count
+  pub answered : AreAnswered lefts rights n
+  pub drew : DrewUntil lefts rights n fault left right
+
+-- what both feeds were drawn for a certificate of this many pairs: all that it shows, also where it is too long or its put failed; else all up to the row out of order;
+-- or, where there was no memory, what the first pairs take and a front of what the next one takes
+abbrev pub DrawsAsCertified : {A : Type 0} → List FeedRow → List FeedRow → ℕ → Result A WordFault → TableFeedState → TableFeedState → Type 0
+DrawsAsCertified lefts rights count (Ok done) left right = AreDrawn (draws_in_all lefts rights count) left right
+DrawsAsCertified lefts rights count (Err (Order side row before got)) left right = StopsCertifying lefts rights count (Order side row before got) left right
+DrawsAsCertified lefts rights count (Err Memory) left right =
+    StopsCertifying lefts rights count Memory left right ⊎ AreDrawn (draws_in_all lefts rights count) left right
+DrawsAsCertified lefts rights count (Err fault) left right = AreDrawn (draws_in_all lefts rights count) left right

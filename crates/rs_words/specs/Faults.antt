@@ -7,6 +7,8 @@ use Rattle.rs_table.specs.declared.fault.TableFault.TheVariants as table
 use Rattle.rs_table_feed.specs.declared.range_fault.RangeFault.{RangeFault}
 use Rattle.rs_expr.specs.declared.scorer.Call.{Call}
 use Rattle.rs_events.specs.HaltFaults.{HaltFaults}
+use Rattle.rs_words.specs.declared.fault.PutFault.{PutFault}
+use Rattle.rs_words.specs.declared.fault.PutFault.TheVariants as put
 use Rattle.rs_words.specs.declared.fault.WordFault.{WordFault}
 use Rattle.rs_words.specs.declared.fault.WordFault.TheVariants.{Memory, Range, Read, Table, Write}
 
@@ -59,3 +61,8 @@ or_table file (Err why) = Err (table_fault file why)
 abbrev pub or_range : {A : Type 0} → ℕ → Result A RangeFault → Result A WordFault
 or_range file (Ok a) = Ok a
 or_range file (Err why) = Err (Range file why)
+
+-- how a word tells that a put didn't go well
+abbrev pub put_fault : PutFault → WordFault
+put_fault put.Write = Write
+put_fault put.Memory = Memory

@@ -1,5 +1,5 @@
 -- The word `feed`: the first pairs of the join of two feeds, and how often both were drawn.
-use Rattle.std.specs.Prelude.{ℕ, zero, suc, ◌≡◌, List, [], ◌∷◌, Bool, true, false, Option, Some, None, Result, Ok, Err}
+use Rattle.std.specs.Prelude.{ℕ, zero, suc, List, [], ◌∷◌, Option, Some, None, Result, Ok, Err}
 use Rattle.rs_feed.specs.declared.feed_row.FeedRow.{FeedRow}
 use Rattle.rs_feed_join.specs.declared.fault.JoinFault.{JoinFault}
 use Rattle.rs_feed_join.specs.declared.feed_pair.FeedPair.{FeedPair}
@@ -7,12 +7,10 @@ use Rattle.rs_feed_join.specs.Answers.{asks_of_cuts, next_answer}
 use Rattle.rs_feed_join.specs.Cuts.{cut}
 use Rattle.rs_feed_join.specs.Ranked.{asks_of_rows}
 use Rattle.rs_order.specs.Schedule.{Left, Right, SideAsk, asked}
-use Rattle.rs_events.specs.Environment.{Environment}
-use Rattle.rs_events.specs.Events.{Finds, Put}
+use Rattle.rs_events.specs.Events.{Put}
+use Rattle.rs_outside.specs.Files.{Finds}
 use Rattle.rs_events.specs.Run.{Run, behind, fails, lines_run}
-use Rattle.rs_events.specs.Running.{HasDone, Ran}
 use Rattle.rs_words.specs.declared.fault.WordFault.{WordFault}
-use Rattle.rs_words.specs.Faults.{put_faults}
 use Rattle.rs_words.specs.Joining.{join_fault}
 use Rattle.rs_words.specs.Lines.{draws_line, pair_line}
 use Rattle.rs_words.specs.TwoFeeds.{FeedWords, IsTwoFeedsRun}
@@ -40,9 +38,3 @@ pairs_run lefts rights count = run_behind lefts rights 0 count
 -- and the line of the draws
 abbrev pub IsFeedRun : Finds → FeedWords → Run WordFault → Type 0
 IsFeedRun finds words run = IsTwoFeedsRun pairs_run finds words run
-
--- what one call of the join did that puts its pair before any later draw
-abbrev pub PutsNext : List FeedRow → List FeedRow → ℕ → Result Bool WordFault → Environment → Environment → Type 0
-PutsNext lefts rights n (Ok true) old new = (pair : FeedPair) × (next_answer lefts rights n ≡ Ok (Some pair)) × HasDone (Put (pair_line (suc n) pair) ∷ []) old new
-PutsNext lefts rights n (Ok false) old new = (next_answer lefts rights n ≡ Ok None) × HasDone [] old new
-PutsNext lefts rights n (Err fault) old new = (more : Run WordFault) → Ran put_faults (call_run lefts rights n (next_answer lefts rights n) more) (Err fault) old new

@@ -1,6 +1,8 @@
 pub mod Faults
 pub mod FeedFiles
 pub mod Lines
+pub mod Putting
+pub mod Gathering
 pub mod Joining
 pub mod TwoFeeds
 pub mod Feeding

@@ -1,7 +1,8 @@
 -- A word over two feeds: the left file is fetched and read, then the right one, and then both are joined.
 use Rattle.std.specs.Prelude.{ℕ, ◌≡◌, List, [], ◌∷◌, Option, Result, Ok, Err}
 use Rattle.rs_feed.specs.declared.feed_row.FeedRow.{FeedRow}
-use Rattle.rs_events.specs.Events.{Fetch, Finds}
+use Rattle.rs_events.specs.Events.{Fetch}
+use Rattle.rs_outside.specs.Files.{Finds}
 use Rattle.rs_events.specs.Run.{Run, behind, fails}
 use Rattle.rs_words.specs.declared.fault.WordFault.{WordFault}
 use Rattle.rs_words.specs.FeedFiles.{feed_file}

@@ -1,19 +1,18 @@
-ghost use Rattle.std.specs.Prelude.{◌≡◌, ◌⊎◌, ◌≤◌, Ok, Err, MatchResult, OnOk, length};
+ghost use Rattle.std.specs.Prelude.{◌≡◌, ◌⊎◌, ◌≤◌, Ok, Err, IfErr, IfOk, MatchResult, length};
 ghost use Rattle.rs_events.specs.Environment.{Environment};
-ghost use Rattle.rs_events.specs.Events.{finds_in};
+ghost use Rattle.rs_outside.specs.Files.{finds_in};
 ghost use Rattle.rs_events.specs.Running.{Ran, Runs};
 ghost use Rattle.rs_cert.specs.Records.{most_wanted};
-ghost use Rattle.rs_cert_join.specs.Certs.{cert_of};
-ghost use Rattle.rs_feed_join.specs.Joins.{new_feed_join, side_in};
-ghost use Rattle.rs_words.specs.Certifying.{IsCertRun, certified, few_rows, joined_bytes, joined_cert_run};
-ghost use Rattle.rs_words.specs.Drawing.{AreDrawn, draws_in_all};
+ghost use Rattle.rs_words.specs.Certifying.{IsCertRun, IsOfBytes, bytes_of, certified, few_rows, joined_bytes, joined_cert_run};
+ghost use Rattle.rs_words.specs.Drawing.{DrawsAsCertified};
 ghost use Rattle.rs_words.specs.Faults.{feed_faults, put_faults};
-ghost use Rattle.rs_words.specs.Joining.{IsJoining, IsUndrawn};
+ghost use Rattle.rs_words.specs.Joining.{IsUndrawn};
 
+use crate::certificate::certify;
 use crate::fault::WordFault;
 use crate::feed_file::read_feed;
-use crate::joining::next_pair;
-use rs_cert::MOST_ROWS;
+use crate::joining::join_fault;
+use rs_cert::{Cert, CertSide, MOST_ROWS};
 use rs_events::put_text;
 use rs_feed_join::FeedJoin;
 use rs_outside::{Files, Sink};
@@ -49,7 +48,7 @@ pub fn cert_word<F: Files, O: Sink>(
 ) -> Result<(), WordFault>
     requires { k ≤ most_wanted }
     ensures { (beside : Environment) → Runs (feed_faults left.now right.now)
-        (IsCertRun (finds_in (F.state files.old).told) (record { left = left.now; right = right.now; count = k })) result
+        (IsCertRun (finds_in (F.state files.old).contents) (record { left = left.now; right = right.now; count = k })) result
         (record beside { files = F.state files.old; out = O.state out.old }) (record beside { files = F.state files.new; out = O.state out.new }) }
 {
     let mut left = read_feed(alloc, 1, left, files)?;
@@ -58,7 +57,9 @@ pub fn cert_word<F: Files, O: Sink>(
 }
 
 /// Puts, in one put, the certificate of the first `count` pairs of two feeds of tables, or of all, and of the rows that
-/// were drawn for them. It draws no row that doesn't stand in the certificate, and no more than the pairs take.
+/// were drawn for them. It draws no row that doesn't stand in the certificate, and no more than the pairs take, also
+/// where the put failed or a side is too long. Where a row was refused it drew all up to that row, and where a call had
+/// no memory, what the first pairs take and a front of what the next one takes.
 ///
 /// # Errors
 ///
@@ -81,7 +82,7 @@ pub fn put_cert<O: Sink>(
     requires wanted { count ≤ most_wanted }
     ensures puts { (beside : Environment) → Ran put_faults (joined_cert_run left.old.rows right.old.rows count) result
         (record beside { out = O.state out.old }) (record beside { out = O.state out.new }) }
-    ensures draws { OnOk result (AreDrawn (draws_in_all left.old.rows right.old.rows count) left.new right.new) }
+    ensures draws { DrawsAsCertified left.old.rows right.old.rows count result left.new right.new }
 {
     let bytes = cert_bytes(alloc, count, left, right)?;
     put_text(&bytes, out)
@@ -94,49 +95,56 @@ fn cert_bytes(
     left: &mut TableFeed,
     right: &mut TableFeed,
 ) -> Result<Vec<u8>, WordFault>
-    requires joining { IsJoining new_feed_join left.old right.old }
+    requires left { IsUndrawn left.old }
+    requires right { IsUndrawn right.old }
     requires wanted { count ≤ most_wanted }
     ensures bytes { MatchResult result (λ bytes. joined_bytes left.old.rows right.old.rows count ≡ Ok bytes.items)
         (λ fault. (fault ≡ WordFault.Memory) ⊎ (joined_bytes left.old.rows right.old.rows count ≡ Err fault)) }
-    ensures draws { OnOk result (AreDrawn (draws_in_all left.old.rows right.old.rows count) left.new right.new) }
+    ensures draws { DrawsAsCertified left.old.rows right.old.rows count result left.new right.new }
 {
-    let mut join = FeedJoin::new(alloc);
-    let pairs = first_pairs(alloc, &mut join, count, left, right)?;
-    require_few(&join, 1)?;
-    require_few(&join, 2)?;
-    Ok(rs_cert_join::write(alloc, &join, count, &pairs)?)
+    let cert = cert_of_tables(alloc, count, left, right)?;
+    few_bytes(alloc, &cert)
 }
 
-/// The first `count` pairs of two feeds, by the numbers of their rows, which a join gives that has drawn nothing.
-fn first_pairs(
+/// The certificate of two feeds of tables.
+fn cert_of_tables(
     alloc: Global,
-    join: &mut FeedJoin,
     count: u32,
     left: &mut TableFeed,
     right: &mut TableFeed,
-) -> Result<Vec<(u32, u32)>, WordFault>
-    requires joining { IsJoining join.old left.old right.old }
-    requires undrawn { join.old ≡ new_feed_join }
-    ensures pairs { MatchResult result (λ pairs. certified left.old.rows right.old.rows count ≡ Ok (cert_of join.new count pairs.items))
+) -> Result<Cert, WordFault>
+    requires left { IsUndrawn left.old }
+    requires right { IsUndrawn right.old }
+    ensures cert { MatchResult result (λ cert. certified left.old.rows right.old.rows count ≡ Ok cert)
         (λ fault. (fault ≡ WordFault.Memory) ⊎ (certified left.old.rows right.old.rows count ≡ Err fault)) }
-    ensures draws { OnOk result (AreDrawn (draws_in_all left.old.rows right.old.rows count) left.new right.new) }
+    ensures wanted { IfOk result (λ cert. cert.k ≡ count) }
+    ensures draws { DrawsAsCertified left.old.rows right.old.rows count result left.new right.new }
 {
-    let mut pairs = Vec::new(alloc);
-    for index in 0..count {
-        match next_pair(join, left, right)? {
-            Some(pair) => pairs.push((pair.left, pair.right))?,
-            None => return Ok(pairs),
-        }
+    let mut join = FeedJoin::new(alloc);
+    match certify(alloc, &mut join, count, left, right) {
+        Ok(cert) => Ok(cert),
+        Err(why) => Err(join_fault(why)),
     }
-    Ok(pairs)
 }
 
-/// Refuses a join that drew more rows of a side than a certificate takes.
-fn require_few(join: &FeedJoin, side: u8) -> Result<(), WordFault>
-    ensures { result ≡ few_rows side (length (side_in side join.now).rows) }
+/// The bytes of a certificate none of whose sides is too long.
+fn few_bytes(alloc: Global, cert: &Cert) -> Result<Vec<u8>, WordFault>
+    requires wanted { cert.now.k ≤ most_wanted }
+    ensures bytes { MatchResult result (λ bytes. bytes_of cert.now ≡ Ok bytes.items)
+        (λ fault. (fault ≡ WordFault.Memory) ⊎ (bytes_of cert.now ≡ Err fault)) }
+    ensures fault { IfErr result (λ fault. IsOfBytes fault) }
 {
-    if join.drawn(side) as usize > MOST_ROWS {
-        return Err(WordFault::CertTooLong { file: side });
+    require_few(&cert.left, 1)?;
+    require_few(&cert.right, 2)?;
+    Ok(rs_cert::write(alloc, cert)?)
+}
+
+/// Refuses a side that has more rows than a certificate takes.
+fn require_few(side: &CertSide, number: u8) -> Result<(), WordFault>
+    ensures { result ≡ few_rows number (length side.now.rows) }
+{
+    if side.rows.len() > MOST_ROWS {
+        return Err(WordFault::CertTooLong { file: number });
     }
     Ok(())
 }

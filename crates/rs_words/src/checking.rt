@@ -1,7 +1,7 @@
 ghost use Rattle.std.specs.Prelude.{◌≡◌, ◌≤◌, ◌∷◌, [], IfOk, length};
 ghost use Rattle.std.specs.String.{string_bytes};
 ghost use Rattle.rs_events.specs.Environment.{Environment};
-ghost use Rattle.rs_events.specs.Events.{finds_in};
+ghost use Rattle.rs_outside.specs.Files.{finds_in};
 ghost use Rattle.rs_events.specs.Run.{lines_run};
 ghost use Rattle.rs_events.specs.Running.{Ran, Runs};
 ghost use Rattle.rs_words.specs.Checking.{IsCertIn, IsCheckRun, IsCheckedRun, verdict_line};
@@ -34,7 +34,7 @@ pub fn check_word<F: Files, O: Sink>(
     files: &mut F,
     out: &mut O,
 ) -> Result<(), WordFault>
-    ensures { (beside : Environment) → Runs (file_faults file.now) (IsCheckRun (finds_in (F.state files.old).told) file.now) result
+    ensures { (beside : Environment) → Runs (file_faults file.now) (IsCheckRun (finds_in (F.state files.old).contents) file.now) result
         (record beside { files = F.state files.old; out = O.state out.old }) (record beside { files = F.state files.new; out = O.state out.new }) }
 {
     let bytes = fetch_bytes(alloc, 1, file, files)?;

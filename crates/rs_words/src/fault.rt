@@ -1,4 +1,5 @@
 use rs_events::HaltFault;
+use rs_feed_join::JoinFault;
 use rs_outside::{FetchFault, SinkFault};
 use rs_table::TableFault;
 use rs_table_feed::RangeFault;
@@ -76,5 +77,68 @@ impl HaltFault for WordFault {
             SinkFault::Failed => WordFault::Write,
             SinkFault::Memory => WordFault::Memory,
         }
+    }
+}
+
+/// Why a put didn't go well.
+#[derive(Clone, Copy, Debug, PartialEq, Eq)]
+pub enum PutFault {
+    /// Standard output failed.
+    Write,
+    Memory,
+}
+
+impl From<Memory> for PutFault {
+    ghost use Rattle.std.specs.Prelude.{◌≡◌};
+    ghost use Rattle.rs_words.specs.declared.fault.PutFault.TheVariants as put;
+
+    ghost from_gives = { λ _ fault. fault ≡ put.Memory };
+
+    fn from(_memory: Memory) -> PutFault {
+        PutFault::Memory
+    }
+}
+
+impl HaltFault for PutFault {
+    ghost use Rattle.rs_words.specs.Putting.{pair_faults};
+
+    ghost faults = { pair_faults };
+
+    fn of_put(why: SinkFault) -> PutFault {
+        match why {
+            SinkFault::Failed => PutFault::Write,
+            SinkFault::Memory => PutFault::Memory,
+        }
+    }
+}
+
+/// Why no more pairs of two feeds are put.
+#[derive(Clone, Copy, Debug, PartialEq, Eq)]
+pub enum PairsFault {
+    /// The join gave no answer.
+    Join(JoinFault),
+    /// The next pair was not put.
+    Put(PutFault),
+}
+
+impl From<JoinFault> for PairsFault {
+    ghost use Rattle.std.specs.Prelude.{◌≡◌};
+    ghost use Rattle.rs_words.specs.declared.fault.PairsFault.TheVariants as pairs;
+
+    ghost from_gives = { λ why fault. fault ≡ pairs.Join why };
+
+    fn from(why: JoinFault) -> PairsFault {
+        PairsFault::Join(why)
+    }
+}
+
+impl From<PutFault> for PairsFault {
+    ghost use Rattle.std.specs.Prelude.{◌≡◌};
+    ghost use Rattle.rs_words.specs.declared.fault.PairsFault.TheVariants as pairs;
+
+    ghost from_gives = { λ why fault. fault ≡ pairs.Put why };
+
+    fn from(why: PutFault) -> PairsFault {
+        PairsFault::Put(why)
     }
 }

@@ -1,20 +1,19 @@
-ghost use Rattle.std.specs.Prelude.{◌≡◌, suc, true, IfErr, IfOk, OnOk};
+ghost use Rattle.std.specs.Prelude.{◌≡◌};
 ghost use Rattle.rs_events.specs.Environment.{Environment};
-ghost use Rattle.rs_events.specs.Events.{finds_in};
+ghost use Rattle.rs_outside.specs.Files.{finds_in};
 ghost use Rattle.rs_events.specs.Running.{Ran, Runs};
-ghost use Rattle.rs_feed_join.specs.Answers.{HasDrawn, asks_of_cuts};
-ghost use Rattle.rs_feed_join.specs.Joins.{new_feed_join};
-ghost use Rattle.rs_words.specs.Drawing.{DrawsAsPut, StopsAt};
+ghost use Rattle.rs_words.specs.Drawing.{DrawsAsPut};
+ghost use Rattle.rs_words.specs.Faults as told;
 ghost use Rattle.rs_words.specs.Faults.{feed_faults, put_faults};
-ghost use Rattle.rs_words.specs.Feeding.{IsFeedRun, PutsNext, pairs_run};
-ghost use Rattle.rs_words.specs.Joining.{IsJoining, IsUndrawn};
+ghost use Rattle.rs_words.specs.Feeding.{IsFeedRun, pairs_run};
+ghost use Rattle.rs_words.specs.Joining.{IsUndrawn};
 
-use crate::fault::WordFault;
+use crate::fault::{PairsFault, PutFault, WordFault};
 use crate::feed_file::read_feed;
-use crate::joining::next_pair;
-use crate::lines::{put_draws, put_pair};
+use crate::joining::join_fault;
+use crate::lines::put_draws;
+use crate::putting::put_pairs;
 use rs_feed_join::FeedJoin;
-use rs_lines::RowLines;
 use rs_outside::{Files, Sink};
 use rs_table_feed::TableFeed;
 use rs_value::Text;
@@ -47,7 +46,7 @@ pub fn feed_word<F: Files, O: Sink>(
     out: &mut O,
 ) -> Result<(), WordFault>
     ensures { (beside : Environment) → Runs (feed_faults left.now right.now)
-        (IsFeedRun (finds_in (F.state files.old).told) (record { left = left.now; right = right.now; count = k })) result
+        (IsFeedRun (finds_in (F.state files.old).contents) (record { left = left.now; right = right.now; count = k })) result
         (record beside { files = F.state files.old; out = O.state out.old }) (record beside { files = F.state files.new; out = O.state out.new }) }
 {
     let mut left = read_feed(alloc, 1, left, files)?;
@@ -84,61 +83,19 @@ pub fn put_join<O: Sink>(
         (record beside { out = O.state out.old }) (record beside { out = O.state out.new }) }
 {
     let mut join = FeedJoin::new(alloc);
-    let mut lines = RowLines::new(alloc);
-    put_pairs(alloc, &mut join, &mut lines, count, left, right, out)
-}
-
-/// The same, by a join that has drawn nothing.
-fn put_pairs<O: Sink>(
-    alloc: Global,
-    join: &mut FeedJoin,
-    lines: &mut RowLines,
-    count: u32,
-    left: &mut TableFeed,
-    right: &mut TableFeed,
-    out: &mut O,
-) -> Result<(), WordFault>
-    requires joining { IsJoining join.old left.old right.old }
-    requires undrawn { join.old ≡ new_feed_join }
-    ensures puts { (beside : Environment) → Ran put_faults (pairs_run left.old.rows right.old.rows count) result
-        (record beside { out = O.state out.old }) (record beside { out = O.state out.new }) }
-    ensures draws { (beside : Environment) → DrawsAsPut left.old.rows right.old.rows count result left.new right.new
-        (record beside { out = O.state out.old }) (record beside { out = O.state out.new }) }
-{
-    for index in 0..count {
-        if !put_next(join, lines, index + 1, left, right, out)? {
-            return put_draws(alloc, left.draws(), right.draws(), out);
-        }
+    match put_pairs(alloc, &mut join, count, left, right, out) {
+        Ok(()) => put_draws(alloc, left.draws(), right.draws(), out),
+        Err(PairsFault::Join(why)) => Err(join_fault(why)),
+        Err(PairsFault::Put(why)) => Err(put_fault(why)),
     }
-    put_draws(alloc, left.draws(), right.draws(), out)
 }
 
-/// Puts the next pair, which gets this rank, and answers whether there was one. All that it draws it draws before the put.
-fn put_next<O: Sink>(
-    join: &mut FeedJoin,
-    lines: &mut RowLines,
-    rank: u32,
-    left: &mut TableFeed,
-    right: &mut TableFeed,
-    out: &mut O,
-) -> Result<bool, WordFault>
-    requires joining { IsJoining join.old left.old right.old }
-    requires rank { rank ≡ suc join.old.given }
-    ensures puts { (beside : Environment) → PutsNext left.old.rows right.old.rows join.old.given result
-        (record beside { out = O.state out.old }) (record beside { out = O.state out.new }) }
-    ensures stops { (beside : Environment) → IfErr result (λ fault. StopsAt left.old.rows right.old.rows join.old.given fault left.new right.new
-        (record beside { out = O.state out.old }) (record beside { out = O.state out.new })) }
-    ensures drawn { OnOk result (HasDrawn (asks_of_cuts left.old.rows right.old.rows join.old.given) join.new.left join.new.right) }
-    ensures given { IfOk result (λ more. more ≡ true → join.new.given ≡ suc join.old.given) }
-    ensures joining { OnOk result (IsJoining join.new left.new right.new) }
-    ensures left_rows { left.new.rows ≡ left.old.rows }
-    ensures right_rows { right.new.rows ≡ right.old.rows }
+/// The fault of a put.
+fn put_fault(why: PutFault) -> WordFault
+    ensures { result ≡ told.put_fault why }
 {
-    match next_pair(join, left, right)? {
-        Some(pair) => {
-            put_pair(lines, rank, pair, out)?;
-            Ok(true)
-        }
-        None => Ok(false),
+    match why {
+        PutFault::Write => WordFault::Write,
+        PutFault::Memory => WordFault::Memory,
     }
 }

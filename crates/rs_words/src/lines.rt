@@ -5,8 +5,9 @@ ghost use Rattle.rs_events.specs.Run.{lines_run};
 ghost use Rattle.rs_events.specs.Running.{Ran};
 ghost use Rattle.rs_words.specs.Faults.{put_faults};
 ghost use Rattle.rs_words.specs.Lines.{draws_line, pair_line};
+ghost use Rattle.rs_words.specs.Putting.{pair_faults};
 
-use crate::fault::WordFault;
+use crate::fault::{PutFault, WordFault};
 use rs_events::put_text;
 use rs_feed_join::FeedPair;
 use rs_lines::RowLines;
@@ -20,8 +21,8 @@ pub(crate) fn put_pair<O: Sink>(
     rank: u32,
     pair: FeedPair,
     out: &mut O,
-) -> Result<(), WordFault>
-    ensures { (beside : Environment) → Ran put_faults (lines_run (pair_line rank pair ∷ [])) result
+) -> Result<(), PutFault>
+    ensures { (beside : Environment) → Ran pair_faults (lines_run (pair_line rank pair ∷ [])) result
         (record beside { out = O.state out.old }) (record beside { out = O.state out.new }) }
 {
     let line = pair_line(lines, rank, pair)?;

@@ -1,5 +1,5 @@
-//! Tests of the join of two feeds. They ask what no clause says: that calls succeed with ample memory, and that the definitions mean
-//! what was meant.
+//! Tests of the join of two feeds, and of what is put and certified of it. They ask what no clause says: that calls succeed with ample
+//! memory, and that the definitions mean what was meant.
 #![tactic(auto)]
 
 #[cfg(test)]
@@ -8,5 +8,7 @@ mod cases;
 mod joins;
 #[cfg(test)]
 mod memory;
+#[cfg(test)]
+mod pairs;
 #[cfg(test)]
 mod random;

@@ -6,7 +6,7 @@ ghost use Rattle.test_ta.specs.Asked.{AreScanned, CanBeAsked, lists_of};
 ghost use Rattle.test_ta.specs.Holding.{holds_for};
 
 use rs_rank::Weights;
-use rs_ta::{MemLists, RowTest, ThresholdScan, new_scan_stands};
+use rs_ta::{Lookup, MemLists, RowTest, ThresholdScan, new_scan_stands};
 use rs_value::Memory;
 use std::alloc::Global;
 use std::process::Abort;
@@ -46,6 +46,28 @@ const FIVE_ROWS: [[(u32, u32); 5]; 3] = [
 const FOUR_ROWS: [[(u32, u32); 4]; 2] = [
     [(10, 1), (8, 2), (5, 3), (2, 4)],
     [(10, 4), (9, 2), (3, 1), (1, 3)],
+];
+
+/// What all rows of the five take: row by row in the order in which they are shown first, and list by list.
+const FIVE_LOOKUPS: [Lookup; 10] = [
+    Lookup { row: 4, list: 2 },
+    Lookup { row: 4, list: 3 },
+    Lookup { row: 5, list: 1 },
+    Lookup { row: 5, list: 2 },
+    Lookup { row: 2, list: 2 },
+    Lookup { row: 2, list: 3 },
+    Lookup { row: 1, list: 1 },
+    Lookup { row: 1, list: 3 },
+    Lookup { row: 3, list: 2 },
+    Lookup { row: 3, list: 3 },
+];
+
+/// And of the four.
+const FOUR_LOOKUPS: [Lookup; 4] = [
+    Lookup { row: 1, list: 2 },
+    Lookup { row: 4, list: 1 },
+    Lookup { row: 2, list: 2 },
+    Lookup { row: 3, list: 2 },
 ];
 
 const NO_ROWS: [[(u32, u32); 0]; 1] = [[]];
@@ -92,7 +114,15 @@ fn assert_next(
     Ok(())
 }
 
-/// Asks for one row after another.
+/// The random accesses so far, one after another.
+fn assert_told(rt: &impl Abort, lists: &MemLists, wanted: &[Lookup]) {
+    match lists.told() {
+        Some(told) => assert_eq!(rt; told, wanted),
+        None => {}
+    }
+}
+
+/// Asks for one row after another, and looks at the random accesses that this took.
 fn assert_gives<const N: usize>(
     rt: &impl Abort,
     alloc: Global,
@@ -100,15 +130,17 @@ fn assert_gives<const N: usize>(
     test: &OneRow,
     lists: &[[(u32, u32); N]],
     wanted: &[Wanted],
+    told: &[Lookup],
 ) -> Result<(), Fail>
     requires { AreScanned weights test.now.rows (lists_of lists.now) }
 {
-    let mut lists = MemLists::new(vectors_of(alloc, lists)?);
+    let mut lists = MemLists::new(alloc, vectors_of(alloc, lists)?);
     let mut scan = ThresholdScan::new(alloc, weights, 1, 1);
     new_scan_stands();
     for wanted in wanted {
         assert_next(rt, &mut scan, test, &mut lists, wanted)?;
     }
+    assert_told(rt, &lists, told);
     Ok(())
 }
 
@@ -124,7 +156,15 @@ fn decides_equal_bounds_by_the_greatest_row(rt: HostRuntime) -> Result<(), Fail>
         (None, 5, 15, 10),
         (None, 5, 15, 10),
     ];
-    assert_gives(&rt, rt.alloc(), ONES, &test, &FIVE_ROWS, &wanted)
+    assert_gives(
+        &rt,
+        rt.alloc(),
+        ONES,
+        &test,
+        &FIVE_ROWS,
+        &wanted,
+        &FIVE_LOOKUPS,
+    )
 }
 
 #[test]
@@ -137,7 +177,15 @@ fn gives_all_rows_of_two_lists(rt: HostRuntime) -> Result<(), Fail> {
         (Some((3, 6)), 4, 8, 4),
         (None, 4, 8, 4),
     ];
-    assert_gives(&rt, rt.alloc(), ONES, &test, &FOUR_ROWS, &wanted)
+    assert_gives(
+        &rt,
+        rt.alloc(),
+        ONES,
+        &test,
+        &FOUR_ROWS,
+        &wanted,
+        &FOUR_LOOKUPS,
+    )
 }
 
 #[test]
@@ -150,7 +198,15 @@ fn adds_the_scores_by_their_weights(rt: HostRuntime) -> Result<(), Fail> {
         (Some((3, 8)), 4, 8, 4),
         (None, 4, 8, 4),
     ];
-    assert_gives(&rt, rt.alloc(), ONE_AND_THREE, &test, &FOUR_ROWS, &wanted)
+    assert_gives(
+        &rt,
+        rt.alloc(),
+        ONE_AND_THREE,
+        &test,
+        &FOUR_ROWS,
+        &wanted,
+        &FOUR_LOOKUPS,
+    )
 }
 
 #[test]
@@ -160,11 +216,27 @@ fn looks_rows_up_that_fail_the_test(rt: HostRuntime) -> Result<(), Fail> {
         row: Some(2),
     };
     let wanted = [(Some((2, 17)), 2, 4, 3), (None, 4, 8, 4)];
-    assert_gives(&rt, rt.alloc(), ONES, &test, &FOUR_ROWS, &wanted)
+    assert_gives(
+        &rt,
+        rt.alloc(),
+        ONES,
+        &test,
+        &FOUR_ROWS,
+        &wanted,
+        &FOUR_LOOKUPS,
+    )
 }
 
 #[test]
 fn ends_at_once_over_no_rows(rt: HostRuntime) -> Result<(), Fail> {
     let test = OneRow { rows: 0, row: None };
-    assert_gives(&rt, rt.alloc(), ONES, &test, &NO_ROWS, &[(None, 0, 0, 0)])
+    assert_gives(
+        &rt,
+        rt.alloc(),
+        ONES,
+        &test,
+        &NO_ROWS,
+        &[(None, 0, 0, 0)],
+        &[],
+    )
 }

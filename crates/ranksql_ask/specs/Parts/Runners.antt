@@ -1,22 +1,17 @@
 -- What is run again and again, as the clauses of the program see it.
-use Rattle.std.specs.Prelude.{List, [], Option, Some, None}
-use Rattle.rs_value.specs.Outside.{Outside, untold}
-use Rattle.rs_outside.specs.Files.{FilesTold}
-use Rattle.rs_scores.specs.KnownFiles.{Found, KnownFilesState, known_state}
+use Rattle.std.specs.Prelude.{true, Option, Some, None}
+use Rattle.rs_value.specs.Outside.{untold}
+use Rattle.rs_outside.specs.Files.{FilesState}
+use Rattle.rs_scores.specs.KnownFiles.{KnownFilesState, known_state}
 use Rattle.ranksql_ask.specs.Endings.{Runner}
 use Rattle.ranksql_ask.specs.Parts.Asking.{form_of_asking}
 use Rattle.ranksql_ask.specs.declared.script.Script.{Script}
 
--- what files tell. They are always there
-abbrev pub told_by : {F : Type 0} → (F → Outside FilesTold) → Option (KnownFilesState F) → Outside FilesTold
-told_by state (Some known) = known_state (state known.files)
-told_by state None = untold 0
+-- what contracts see of files. They are always there
+abbrev pub seen_by : {F : Type 0} → (F → FilesState) → Option (KnownFilesState F) → FilesState
+seen_by state (Some known) = known_state known.found (state known.files)
+seen_by state None = record { outside = untold 0; contents = λ name. None; remembers = true }
 
--- what was found of them
-abbrev pub found_by : {F : Type 0} → Option (KnownFilesState F) → List Found
-found_by (Some known) = known.found
-found_by None = []
-
--- the form of what it runs, what its files tell, and what was found of them
-abbrev pub runner_of : {F : Type 0} → (F → Outside FilesTold) → Script F → Runner
-runner_of state script = record { form = form_of_asking script.asking; files = told_by state script.files; found = found_by script.files }
+-- the form of what it runs, and its files
+abbrev pub runner_of : {F : Type 0} → (F → FilesState) → Script F → Runner
+runner_of state script = record { form = form_of_asking script.asking; files = seen_by state script.files }

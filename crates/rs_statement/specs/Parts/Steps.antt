@@ -1,8 +1,7 @@
 -- What the parts of a run do, with the faults of statements: its events up to a halt, steps with the states that they leave, and fetches.
 use Rattle.std.specs.Prelude.{ℕ, ◌≡◌, List, Option, Result}
-use Rattle.rs_value.specs.Outside.{Outside}
 use Rattle.rs_value.specs.Results.{◌>>=◌}
-use Rattle.rs_outside.specs.Files.{FilesTold}
+use Rattle.rs_outside.specs.Files.{FilesState}
 use Rattle.rs_table.specs.Column.{Column}
 use Rattle.rs_table.specs.Reading.{table_of}
 use Rattle.rs_table.specs.Relation.{Relation}
@@ -28,7 +27,7 @@ Stepped of left result old new = running.Stepped statement_faults of left result
 abbrev pub Leaves : {S : Type 0} → Result S Fault → S → Result (Unit {0}) Fault → Type 0
 Leaves outcome left result = running.Leaves Memory outcome left result
 
-abbrev pub FetchesFile : {A : Type 0} → List ℕ → Result A Fault → (Option (List ℕ) → Result A Fault → Type 0) → Outside FilesTold → Outside FilesTold → Type 0
+abbrev pub FetchesFile : {A : Type 0} → List ℕ → Result A Fault → (Option (List ℕ) → Result A Fault → Type 0) → FilesState → FilesState → Type 0
 FetchesFile file result gives old new = fetching.FetchesFile Memory (statement_faults.IsFailedFetch file) file result gives old new
 
 -- the table of the file, by these columns, or why there is none

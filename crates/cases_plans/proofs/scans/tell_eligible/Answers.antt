@@ -31,7 +31,7 @@ tell_asks-told-requires c =
     let state = index_lists_state lists in
     let unaccessed = subst (λ (own : IndexListsState). AreUnaccessed (index_lists_state own)) c.new-lists.ensures.value c.new-lists.ensures.unaccessed in
     let start : CanBeScanned (new_scan (weights_of block) 1 1) lists test = record {
-      stands = c.new_scan_stands.ensures (weights_of block) 1 1 state (holds_on catalogue block) (λ list is. (unaccessed list).0) (λ list is. (unaccessed list).1);
+      stands = c.new_scan_stands.ensures (weights_of block) 1 1 state (holds_on catalogue block) (λ list is. (unaccessed.counts list).0) (record { counts = λ list is. (unaccessed.counts list).1; told = unaccessed.told });
       have = c.eligible_blocks_can_be_scanned.ensures.weights catalogue block indexes c.requires.formed c.requires.eligible;
       same_rows = c.threshold_scans_give_the_answer.ensures.rows c.requires.held.0 catalogue block indexes c.requires.formed c.requires.eligible
           (held-indexes c.requires.held.0 catalogue indexes c.requires.held.1);

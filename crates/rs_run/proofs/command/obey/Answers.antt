@@ -1,6 +1,6 @@
 use Rattle.std.proofs.Common.{refl, subst}
 use Rattle.rs_value.proofs.ResultFacts.{given-err}
-use Rattle.rs_events.specs.Events.{finds_in}
+use Rattle.rs_outside.specs.Files.{finds_in}
 use Rattle.rs_run.specs.Parts.CommandLine.{HasCertCount, form_of_command_line}
 use Rattle.rs_run.specs.declared.fault.RunFault.TheVariants.{Statement}
 use Rattle.rs_run.specs.declared.words.CommandLine.TheVariants as command
@@ -10,7 +10,7 @@ use Rattle.rs_run.proofs.command.obey.Goals as goal
 pub returns-in_err-top-in-Top : goal.returns-in_err-top-in-Top
 returns-in_err-top-in-Top g c =
     rw (given-err c.from_residual.result (Statement c.in_err-top-in-Top.field-0.0) c.from_residual.ensures, c.in-Top.is) (record {
-      does = λ beside. Runs-told_err (finds_in (g.F.Files.state c.args.files.now).told) (g.S.Scorer.state c.args.scorer.now).answer (form_of_command_line (command.Top c.in-Top.words))
+      does = λ beside. Runs-told_err (finds_in (g.F.Files.state c.args.files.now).contents) (g.S.Scorer.state c.args.scorer.now).answer (form_of_command_line (command.Top c.in-Top.words))
           (record beside { files = g.F.Files.state c.args.files.now; scorer = g.S.Scorer.state c.args.scorer.now; out = g.O.Sink.state c.args.out.now })
           (record beside { files = g.F.Files.state c.top.new.files; scorer = g.S.Scorer.state c.args.scorer.now; out = g.O.Sink.state c.top.new.out }) c.in_err-top-in-Top.field-0.0 (c.in_err-top-in-Top.ensures (record beside { files = g.F.Files.state c.args.files.now; scorer = g.S.Scorer.state c.args.scorer.now; out = g.O.Sink.state c.args.out.now }));
       unfetched = λ number rows generated. absurd cc;
@@ -18,7 +18,7 @@ returns-in_err-top-in-Top g c =
 
 pub returns-in_ok-top-in-Top : goal.returns-in_ok-top-in-Top
 returns-in_ok-top-in-Top g c = rw c.in-Top.is (record {
-  does = λ beside. Runs-told_ok (finds_in (g.F.Files.state c.args.files.now).told) (g.S.Scorer.state c.args.scorer.now).answer (form_of_command_line (command.Top c.in-Top.words))
+  does = λ beside. Runs-told_ok (finds_in (g.F.Files.state c.args.files.now).contents) (g.S.Scorer.state c.args.scorer.now).answer (form_of_command_line (command.Top c.in-Top.words))
       (record beside { files = g.F.Files.state c.args.files.now; scorer = g.S.Scorer.state c.args.scorer.now; out = g.O.Sink.state c.args.out.now })
       (record beside { files = g.F.Files.state c.top.new.files; scorer = g.S.Scorer.state c.args.scorer.now; out = g.O.Sink.state c.top.new.out }) (c.in_ok-top-in-Top.ensures (record beside { files = g.F.Files.state c.args.files.now; scorer = g.S.Scorer.state c.args.scorer.now; out = g.O.Sink.state c.args.out.now }));
   unfetched = λ number rows generated. absurd cc;
@@ -27,7 +27,7 @@ returns-in_ok-top-in-Top g c = rw c.in-Top.is (record {
 pub returns-in_err-run_script-in-RunScript : goal.returns-in_err-run_script-in-RunScript
 returns-in_err-run_script-in-RunScript g c =
     rw (given-err c.from_residual-in_err-run_script-in-RunScript.result (Statement c.in_err-run_script-in-RunScript.field-0.0) c.from_residual-in_err-run_script-in-RunScript.ensures, c.in-RunScript.is) (record {
-      does = λ beside. Runs-told_err (finds_in (g.F.Files.state c.args.files.now).told) (g.S.Scorer.state c.args.scorer.now).answer (form_of_command_line (command.RunScript c.in-RunScript.script c.in-RunScript.evaluating))
+      does = λ beside. Runs-told_err (finds_in (g.F.Files.state c.args.files.now).contents) (g.S.Scorer.state c.args.scorer.now).answer (form_of_command_line (command.RunScript c.in-RunScript.script c.in-RunScript.evaluating))
           (record beside { files = g.F.Files.state c.args.files.now; scorer = g.S.Scorer.state c.args.scorer.now; out = g.O.Sink.state c.args.out.now })
           (record beside { files = g.F.Files.state c.run_script.new.files; scorer = g.S.Scorer.state c.run_script.new.scorer; out = g.O.Sink.state c.run_script.new.out }) c.in_err-run_script-in-RunScript.field-0.0 (c.in_err-run_script-in-RunScript.ensures beside);
       unfetched = λ number rows generated. absurd cc;
@@ -35,7 +35,7 @@ returns-in_err-run_script-in-RunScript g c =
 
 pub returns-in_ok-run_script-in-RunScript : goal.returns-in_ok-run_script-in-RunScript
 returns-in_ok-run_script-in-RunScript g c = rw c.in-RunScript.is (record {
-  does = λ beside. Runs-told_ok (finds_in (g.F.Files.state c.args.files.now).told) (g.S.Scorer.state c.args.scorer.now).answer (form_of_command_line (command.RunScript c.in-RunScript.script c.in-RunScript.evaluating))
+  does = λ beside. Runs-told_ok (finds_in (g.F.Files.state c.args.files.now).contents) (g.S.Scorer.state c.args.scorer.now).answer (form_of_command_line (command.RunScript c.in-RunScript.script c.in-RunScript.evaluating))
       (record beside { files = g.F.Files.state c.args.files.now; scorer = g.S.Scorer.state c.args.scorer.now; out = g.O.Sink.state c.args.out.now })
       (record beside { files = g.F.Files.state c.run_script.new.files; scorer = g.S.Scorer.state c.run_script.new.scorer; out = g.O.Sink.state c.run_script.new.out }) (c.in_ok-run_script-in-RunScript.ensures beside);
   unfetched = λ number rows generated. absurd cc;
@@ -44,7 +44,7 @@ returns-in_ok-run_script-in-RunScript g c = rw c.in-RunScript.is (record {
 pub returns-in_err-run_generated-in-RunGenerated : goal.returns-in_err-run_generated-in-RunGenerated
 returns-in_err-run_generated-in-RunGenerated g c =
     rw (given-err c.from_residual-in_err-run_generated-in-RunGenerated.result (Statement c.in_err-run_generated-in-RunGenerated.field-0.0) c.from_residual-in_err-run_generated-in-RunGenerated.ensures, c.in-RunGenerated.is) (record {
-      does = λ beside. Runs-told_err (finds_in (g.F.Files.state c.args.files.now).told) (g.S.Scorer.state c.args.scorer.now).answer (form_of_command_line (command.RunGenerated c.in-RunGenerated.number c.in-RunGenerated.rows))
+      does = λ beside. Runs-told_err (finds_in (g.F.Files.state c.args.files.now).contents) (g.S.Scorer.state c.args.scorer.now).answer (form_of_command_line (command.RunGenerated c.in-RunGenerated.number c.in-RunGenerated.rows))
           (record beside { files = g.F.Files.state c.args.files.now; scorer = g.S.Scorer.state c.args.scorer.now; out = g.O.Sink.state c.args.out.now })
           (record beside { files = g.F.Files.state c.args.files.now; scorer = g.S.Scorer.state c.run_generated.new.scorer; out = g.O.Sink.state c.run_generated.new.out }) c.in_err-run_generated-in-RunGenerated.field-0.0 (c.in_err-run_generated-in-RunGenerated.ensures (record beside { files = g.F.Files.state c.args.files.now }));
       unfetched = λ number rows generated. refl;
@@ -52,7 +52,7 @@ returns-in_err-run_generated-in-RunGenerated g c =
 
 pub returns-in_ok-run_generated-in-RunGenerated : goal.returns-in_ok-run_generated-in-RunGenerated
 returns-in_ok-run_generated-in-RunGenerated g c = rw c.in-RunGenerated.is (record {
-  does = λ beside. Runs-told_ok (finds_in (g.F.Files.state c.args.files.now).told) (g.S.Scorer.state c.args.scorer.now).answer (form_of_command_line (command.RunGenerated c.in-RunGenerated.number c.in-RunGenerated.rows))
+  does = λ beside. Runs-told_ok (finds_in (g.F.Files.state c.args.files.now).contents) (g.S.Scorer.state c.args.scorer.now).answer (form_of_command_line (command.RunGenerated c.in-RunGenerated.number c.in-RunGenerated.rows))
       (record beside { files = g.F.Files.state c.args.files.now; scorer = g.S.Scorer.state c.args.scorer.now; out = g.O.Sink.state c.args.out.now })
       (record beside { files = g.F.Files.state c.args.files.now; scorer = g.S.Scorer.state c.run_generated.new.scorer; out = g.O.Sink.state c.run_generated.new.out }) (c.in_ok-run_generated-in-RunGenerated.ensures (record beside { files = g.F.Files.state c.args.files.now }));
   unfetched = λ number rows generated. refl;

@@ -2,7 +2,7 @@ use Rattle.std.proofs.Common.{◌∙◌}
 use Rattle.rs_catalog.specs.Catalog.{with_index, with_predicate, with_table}
 use Rattle.rs_catalog.specs.Growing.{grown}
 use Rattle.rs_catalog.specs.Snapshot.{sizes_in}
-use Rattle.rs_events.specs.Events.{finds_in}
+use Rattle.rs_outside.specs.Files.{finds_in}
 use Rattle.rs_statement.specs.Session.{ByPlan, OpenCursor}
 use Rattle.rs_statement.proofs.SameFetches.{AskTheSame}
 use Rattle.rs_run.proofs.LaterFacts.{KeepsFetch-states, declared-cursor, declared-events, goes-on, keeps-grown, keeps-with_index, keeps-with_predicate, keeps-with_table}
@@ -24,11 +24,11 @@ returns c =
       rows = λ answer state cursor wanted table rows indexes is held gives.
           KeepsFetch-states same answer cursor wanted state (record state { catalogue = grown table rows indexes state.catalogue })
           (keeps-grown same answer cursor wanted state.catalogue is table rows indexes held gives);
-      statements = λ told answer evaluating state later commands cursor wanted written held is leads.
-          KeepsFetch-states same answer cursor wanted state later (goes-on same answer cursor wanted (finds_in told) evaluating commands state later written held is leads);
-      declared = λ told answer evaluating state later commands query tree name asked wanted covered written held leads.
+      statements = λ contents answer evaluating state later commands cursor wanted written held is leads.
+          KeepsFetch-states same answer cursor wanted state later (goes-on same answer cursor wanted (finds_in contents) evaluating commands state later written held is leads);
+      declared = λ contents answer evaluating state later commands query tree name asked wanted covered written held leads.
           let cursor : OpenCursor = record { name = name; source = ByPlan query tree (sizes_in state.catalogue); asked = asked } in
           KeepsFetch-states same answer cursor wanted state later
-          (goes-on same answer cursor wanted (finds_in told) evaluating commands state later written held (declared-cursor answer state held query tree name asked covered) leads)
+          (goes-on same answer cursor wanted (finds_in contents) evaluating commands state later written held (declared-cursor answer state held query tree name asked covered) leads)
           ∙ declared-events answer state held query tree name asked wanted;
     }

@@ -1,6 +1,5 @@
-use Rattle.std.specs.Prelude.{Some}
-use Rattle.rs_events.specs.Events.{finds_in, found_in}
-use Rattle.rs_events.proofs.OneRun.{found-one, told-one}
+use Rattle.rs_outside.specs.Files.{found_in}
+use Rattle.rs_events.proofs.OneRun.{found-one}
 use Rattle.rs_statement.proofs.SameFetches.{AskTheSame}
 use Rattle.rs_run.proofs.SameScripts.{alike-scripts}
 use Rattle.rs_run.proofs.laws.plain_and_run_agree.Goals as goal
@@ -9,7 +8,5 @@ pub returns : goal.returns
 returns c =
     let give = c.plans_give_the_answer.ensures.answer in
     let asks = c.plans_ask_the_same_in_larger_catalogues.ensures in
-    let same : AskTheSame = record { tables = asks.tables; predicates = asks.predicates; indexes = asks.indexes } in record {
-      files = λ there answer name sampling. alike-scripts give same (found_in there) (found-one there) answer sampling name;
-      told = λ told answer name sampling. alike-scripts give same (finds_in (Some told)) (told-one told) answer sampling name;
-    }
+    let same : AskTheSame = record { tables = asks.tables; predicates = asks.predicates; indexes = asks.indexes } in
+    λ there answer name sampling. alike-scripts give same (found_in there) (found-one there) answer sampling name

@@ -1,7 +1,7 @@
 use Rattle.rs_syntax.specs.Syntax.{command_of, query_of}
 use Rattle.rs_catalog.specs.IndexesHold.{IndexesHold}
 use Rattle.rs_statement.specs.Parts.Session.{CanAllBeAsked, held_in, state_of}
-use Rattle.rs_events.specs.Events.{finds_in}
+use Rattle.rs_outside.specs.Files.{finds_in}
 use Rattle.rs_statement.specs.Session.{DoesInSession, close_outcome, declare_step, fetch_step}
 use Rattle.rs_statement.specs.Statements.{Does}
 use Rattle.rs_statement.proofs.HeldSteps.{asked-step, held-step}
@@ -19,7 +19,7 @@ declare-requires g c = record {
 pub returns-in-Declare : goal.returns-in-Declare
 returns-in-Declare g c =
     let old = g.W.Host.state c.args.host.now in
-    let finds = finds_in old.files.told in
+    let finds = finds_in old.files.contents in
     let answer = old.scorer.answer in
     let state = state_of c.args.catalog.now (held_in c.args.session.now) in record {
       does = rw g.met.W.Host.after_scorer (Stepped-is (DoesInSession finds answer c.args.evaluating state (command_of c.args.statement.now))
@@ -37,7 +37,7 @@ fetch-requires g c = c.requires.asked
 pub returns-in-Fetch : goal.returns-in-Fetch
 returns-in-Fetch g c =
     let old = g.W.Host.state c.args.host.now in
-    let finds = finds_in old.files.told in
+    let finds = finds_in old.files.contents in
     let answer = old.scorer.answer in
     let state = state_of c.args.catalog.now (held_in c.args.session.now) in record {
       does = Stepped-is (DoesInSession finds answer c.args.evaluating state (command_of c.args.statement.now))
@@ -52,7 +52,7 @@ returns-in-Fetch g c =
 pub returns-in-Close : goal.returns-in-Close
 returns-in-Close g c =
     let old = g.W.Host.state c.args.host.now in
-    let finds = finds_in old.files.told in
+    let finds = finds_in old.files.contents in
     let answer = old.scorer.answer in
     let state = state_of c.args.catalog.now (held_in c.args.session.now) in record {
       does = Stepped-still (DoesInSession finds answer c.args.evaluating state (command_of c.args.statement.now))
@@ -73,7 +73,7 @@ run_without_cursor-requires g c = record {
 pub returns-in_default : goal.returns-in_default
 returns-in_default g c =
     let old = g.W.Host.state c.args.host.now in
-    let finds = finds_in old.files.told in
+    let finds = finds_in old.files.contents in
     let answer = old.scorer.answer in
     let catalogue = c.args.catalog.now in
     let entries = held_in c.args.session.now in

@@ -2,7 +2,7 @@ use Rattle.rs_value.proofs.ResultFacts.{given-err}
 use Rattle.std.specs.Prelude.{Ok}
 use Rattle.rs_syntax.specs.Syntax.{command_of}
 use Rattle.rs_catalog.specs.IndexesHold.{IndexesHold}
-use Rattle.rs_events.specs.Events.{finds_in}
+use Rattle.rs_outside.specs.Files.{finds_in}
 use Rattle.rs_events.proofs.SteppedFacts.{Stepped-map}
 use Rattle.rs_statement.specs.Statements.{Does}
 use Rattle.rs_statement.specs.declared.evaluating.Evaluating.TheVariants.{Plainly}
@@ -23,7 +23,7 @@ run_without_cursor-requires g c = record {
 pub returns-in_err-run_without_cursor : goal.returns-in_err-run_without_cursor
 returns-in_err-run_without_cursor g c =
     let old = g.W.Host.state c.args.host.now in
-    let finds = finds_in old.files.told in
+    let finds = finds_in old.files.contents in
     let command = command_of c.args.statement.now in
     let next = c.run_without_cursor.new.catalog in
     let new = g.W.Host.state c.run_without_cursor.new.host in
@@ -37,7 +37,7 @@ returns-in_err-run_without_cursor g c =
 pub returns : goal.returns
 returns g c =
     let old = g.W.Host.state c.args.host.now in
-    let finds = finds_in old.files.told in
+    let finds = finds_in old.files.contents in
     let command = command_of c.args.statement.now in
     let next = c.run_without_cursor.new.catalog in
     let new = g.W.Host.state c.run_without_cursor.new.host in record {

@@ -5,6 +5,8 @@ use Rattle.rs_lines.specs.Row.{line_of}
 use Rattle.rs_ta.specs.BlockTests.{BlockTestState}
 use Rattle.rs_ta.specs.Depths.{ScanInput, answers}
 use Rattle.rs_ta.specs.Eligible.{answer_for}
+use Rattle.rs_ta.specs.IndexLists.{index_lists_state}
+use Rattle.rs_ta.proofs.ExtensionFacts.{on_err_from}
 use Rattle.rs_events.specs.Run.{lines_run}
 use Rattle.rs_events.specs.Running.{Ran}
 use Rattle.rs_events.proofs.RanFacts.{HasDone-none}
@@ -14,6 +16,7 @@ use Rattle.rs_run.specs.declared.fault.RunFault.TheVariants.{Statement}
 use Rattle.rs_run.specs.Faults.{run_faults}
 use Rattle.rs_run.specs.Parts.Scanning.{most_asks, scan_input, scanned_rows}
 use Rattle.rs_run.proofs.ScanFacts.{at-ended, at-more, at-most, at-row, few-answers, lines-all, lines-broken, lines-cut, lines-more, next-is}
+use Rattle.rs_run.proofs.ScanHaltFacts.{broken-refused, broken-row, only_entry, somebody}
 use Rattle.rs_run.proofs.threshold.put_scanned_rows.Goals as goal
 
 pub loop-given-init : goal.loop-given-init
@@ -32,6 +35,31 @@ returns-in_err-found-clause-puts g c = λ beside.
     let new = record beside { out = g.O.Sink.state c.loop-given.out } in
     subst (λ result. Ran run_faults (lines_run (rank_lines 1 (scanned_rows c.args.test.now c.args.limit i))) result old new) (sym (given-err c.from_residual.result (Statement Memory) c.from_residual.ensures))
     (lines-cut c.args.test.now c.args.limit i c.loop-given.given old new (c.loop-given.invariant.has beside))
+
+pub returns-in_err-found-clause-broken : goal.returns-in_err-found-clause-broken
+returns-in_err-found-clause-broken g c =
+    let test = c.args.test.now in
+    let within : c.loop-given.given < most_asks c.args.limit = subst (λ most. c.loop-given.given < most) c.most_asks-given-end.ensures c.loop-given-test.true in
+    on_err_from c.from_residual.result
+    (broken-refused test c.args.scan.now c.args.lists.now c.loop-given.given c.loop-given.scan c.loop-given.lists c.loop-given.invariant.at c.args.limit within
+    (g.O.Sink.state c.args.out.now) (g.O.Sink.state c.loop-given.out) (index_lists_state c.next.new.lists) (c.loop-given.invariant.has somebody) c.in_err-found.ensures.refused)
+
+pub returns-in_err-put_scanned_row-in-Some-clause-broken : goal.returns-in_err-put_scanned_row-in-Some-clause-broken
+returns-in_err-put_scanned_row-in-Some-clause-broken g c =
+    let test = c.args.test.now in
+    let given = c.loop-given.given in
+    let middle = record somebody { out = g.O.Sink.state c.loop-given.out } in
+    let new = record somebody { out = g.O.Sink.state c.put_scanned_row.new.out } in
+    let within : given < most_asks c.args.limit = subst (λ most. given < most) c.most_asks-given-end.ensures c.loop-given-test.true in
+    let e = sym c.in-Some.is ∙ next-is test c.args.scan.now c.args.lists.now given c.loop-given.scan c.loop-given.lists c.loop-given.invariant.at c.in_ok-found.found c.next.new.self c.next.new.lists
+    c.in_ok-found.ensures.row c.in_ok-found.ensures.after c.in_ok-found.ensures.stands c.in_ok-found.ensures.input c.in_ok-found.ensures.lists in
+    on_err_from c.from_residual-in_err-put_scanned_row-in-Some.result
+    (broken-row test c.args.scan.now c.args.lists.now given c.loop-given.scan c.loop-given.lists c.loop-given.invariant.at c.args.limit within
+    (only_entry c.args.scan.now.entry c.requires.scanning.entry_is) c.lists.ensures.ranked c.requires.scanning.have c.in-Some.row e
+    (g.O.Sink.state c.args.out.now) (g.O.Sink.state c.loop-given.out) (g.O.Sink.state c.put_scanned_row.new.out) (index_lists_state c.next.new.lists)
+    (c.loop-given.invariant.has somebody) c.in_ok-found.ensures.accessed c.in_err-put_scanned_row-in-Some.field-0.0
+    (subst (λ (t : BlockTestState). Ran run_faults (lines_run (line_of (given + 1) c.in-Some.row.sum (answer_for t.catalogue t.block c.in-Some.row).values ∷ [])) (Err c.in_err-put_scanned_row-in-Some.field-0.0) middle new)
+    (sym c.requires.test) (c.in_err-put_scanned_row-in-Some.ensures somebody)))
 
 pub put_scanned_row-requires-clause-row : goal.put_scanned_row-requires-clause-row
 put_scanned_row-requires-clause-row g c =
@@ -91,6 +119,7 @@ returns-in-None g c =
           (c.loop-given.invariant.has beside);
       asked = at-ended test c.args.scan.now c.args.lists.now given c.loop-given.scan c.loop-given.lists at c.in_ok-found.found c.next.new.self c.next.new.lists
           c.in_ok-found.ensures.row c.in_ok-found.ensures.after c.in_ok-found.ensures.stands c.in_ok-found.ensures.input c.in_ok-found.ensures.lists c.args.limit c.in-None.is ends within;
+      broken = tt;
     }
 
 pub returns : goal.returns
@@ -104,4 +133,5 @@ returns g c =
       puts = λ beside. lines-all test c.args.limit i given (record beside { out = g.O.Sink.state c.args.out.now }) (record beside { out = g.O.Sink.state c.loop-given.out }) (inl (most ∙ end)) few
           (c.loop-given.invariant.has beside);
       asked = at-most test c.args.scan.now c.args.lists.now given c.loop-given.scan c.loop-given.lists c.loop-given.invariant.at c.args.limit (most ∙ end) few;
+      broken = tt;
     }

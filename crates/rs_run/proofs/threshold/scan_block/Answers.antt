@@ -48,7 +48,7 @@ put_scan-put-requires g c =
     let start : IsScanning test (new_scan (weights_of block) 1 1) lists = record {
       entry_is = refl;
       block_is = refl;
-      stands = c.new_scan_stands.ensures (weights_of block) 1 1 state (holds_on catalogue block) (λ list is. (unaccessed list).0) (λ list is. (unaccessed list).1);
+      stands = c.new_scan_stands.ensures (weights_of block) 1 1 state (holds_on catalogue block) (λ list is. (unaccessed.counts list).0) (record { counts = λ list is. (unaccessed.counts list).1; told = unaccessed.told });
       have = c.eligible_blocks_can_be_scanned.ensures.weights catalogue block indexes c.requires.formed c.requires.eligible;
       same_rows = c.threshold_scans_give_the_answer.ensures.rows answer catalogue block indexes c.requires.formed c.requires.eligible (held-indexes answer catalogue indexes c.requires.held);
     } in
@@ -83,4 +83,4 @@ returns g c =
     ≡ scan_lines answer catalogue (One block limit) (block_input catalogue block indexes) =
     ap (λ (i : ScanInput). rank_lines 1 (scanned_rows c.new-test.result limit i) ++ access_line i (scan_asks limit i) ∷ []) input
     ∙ ap (λ (rows : List Answer). rank_lines 1 rows ++ access_line (block_input catalogue block indexes) (scan_asks limit (block_input catalogue block indexes)) ∷ []) rows in
-    rw g.met.W.Host.after_out (lines-same _ _ lines c.put_scan-put.result old _ (rw c.out.ensures.value at c.put_scan-put.ensures old))
+    rw g.met.W.Host.after_out (lines-same _ _ lines c.put_scan-put.result old _ (rw c.out.ensures.value at c.put_scan-put.ensures.puts old))

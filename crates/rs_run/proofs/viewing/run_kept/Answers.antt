@@ -1,7 +1,7 @@
 use Rattle.std.proofs.Common.{refl}
 use Rattle.rs_syntax.specs.Syntax.{command_of}
 use Rattle.rs_catalog.specs.IndexesHold.{IndexesHold}
-use Rattle.rs_events.specs.Events.{finds_in}
+use Rattle.rs_outside.specs.Files.{finds_in}
 use Rattle.rs_events.proofs.SteppedFacts.{Stepped-is, Stepped-still}
 use Rattle.rs_statement.specs.Statements.{Does}
 use Rattle.rs_statement.specs.declared.evaluating.Evaluating.TheVariants.{Plainly}
@@ -17,7 +17,7 @@ pub returns-in-Fetch : goal.returns-in-Fetch
 returns-in-Fetch g c =
     let old = g.W.Host.state c.args.host.now in
     let kept = kept_of c.args.catalog.now (views_in c.args.held.now) in record {
-      does = rw g.met.W.Host.after_out (Stepped-is (DoesKept (finds_in old.files.told) old.scorer.answer kept (command_of c.args.statement.now))
+      does = rw g.met.W.Host.after_out (Stepped-is (DoesKept (finds_in old.files.contents) old.scorer.answer kept (command_of c.args.statement.now))
           (fetch_step kept c.in-Fetch.count c.in-Fetch.name) kept c.fetch_view.result old _ (rw c.in-Fetch.is refl)
           (rw c.out.ensures.value at c.fetch_view.ensures old c.args.catalog.now));
       indexes = if-ok c.fetch_view.result _ c.requires.indexes;
@@ -28,7 +28,7 @@ pub returns-in-Close : goal.returns-in-Close
 returns-in-Close g c =
     let old = g.W.Host.state c.args.host.now in
     let kept = kept_of c.args.catalog.now (views_in c.args.held.now) in record {
-      does = Stepped-still (DoesKept (finds_in old.files.told) old.scorer.answer kept (command_of c.args.statement.now))
+      does = Stepped-still (DoesKept (finds_in old.files.contents) old.scorer.answer kept (command_of c.args.statement.now))
           (close_outcome kept c.in-Close.name) (kept_of c.args.catalog.now (views_in c.close_view.new.held)) c.close_view.result old (rw c.in-Close.is refl)
           (c.close_view.ensures.closes c.args.catalog.now);
       indexes = if-ok c.close_view.result _ c.requires.indexes;
@@ -61,7 +61,7 @@ run_without_cursor-requires g c = record {
 pub returns-in_default : goal.returns-in_default
 returns-in_default g c =
     let old = g.W.Host.state c.args.host.now in
-    let finds = finds_in old.files.told in
+    let finds = finds_in old.files.contents in
     let answer = old.scorer.answer in
     let catalogue = c.args.catalog.now in
     let views = views_in c.args.held.now in

@@ -1,6 +1,6 @@
 use Rattle.std.proofs.Common.{ℕ, ap, rules, sym}
 use Rattle.rs_value.proofs.ResultFacts.{given-err}
-use Rattle.rs_events.specs.Events.{finds_in}
+use Rattle.rs_outside.specs.Files.{finds_in}
 use Rattle.rs_run.specs.Faults.{run_faults}
 use Rattle.rs_run.specs.Viewing.{DoesNextByViews, ViewsRun, first_view_statement}
 use Rattle.rs_run.specs.declared.fault.RunFault.TheVariants.{Statement}
@@ -12,18 +12,18 @@ use Rattle.rs_run.proofs.viewing.run_with_views.Goals as goal
 pub returns-in_err-script : goal.returns-in_err-script
 returns-in_err-script g c = λ beside.
     let answer = (g.S.Scorer.state c.args.scorer.now).answer in
-    let finds = finds_in (g.F.Files.state c.args.files.now).told in
+    let finds = finds_in (g.F.Files.state c.args.files.now).contents in
     rw (given-err c.from_residual.result (Statement c.in_err-script.field-0.0) c.from_residual.ensures)
     (Script-unread Statement run_faults tells-words c.args.name.now
     (record beside { files = g.F.Files.state c.args.files.now; scorer = g.S.Scorer.state c.args.scorer.now; out = g.O.Sink.state c.args.out.now }) (g.F.Files.state c.fetch_script.new.files)
-    (ViewsRun finds answer) (each_views finds (finds_in-has (g.F.Files.state c.args.files.now).told) answer) c.in_err-script.field-0.0 c.in_err-script.ensures.fetches)
+    (ViewsRun finds answer) (each_views finds (finds_in-has (g.F.Files.state c.args.files.now).contents) answer) c.in_err-script.field-0.0 c.in_err-script.ensures.fetches)
 
 pub returns : goal.returns
 returns g c = λ beside.
     let same = sym c.view_text.ensures.ran.keeps.references in
     let answer = (g.S.Scorer.state c.args.scorer.now).answer in
-    let finds = finds_in (g.F.Files.state c.args.files.now).told in
-    let later = finds_in (g.F.Files.state c.fetch_script.new.files).told in
+    let finds = finds_in (g.F.Files.state c.args.files.now).contents in
+    let later = finds_in (g.F.Files.state c.fetch_script.new.files).contents in
     Script-read Statement run_faults tells-words c.args.name.now
     (record beside { files = g.F.Files.state c.args.files.now; scorer = g.S.Scorer.state c.args.scorer.now; out = g.O.Sink.state c.args.out.now }) (g.F.Files.state c.fetch_script.new.files)
     (ViewsRun finds answer) (ViewsRun later answer)

@@ -1,7 +1,7 @@
 use Rattle.std.specs.Prelude.{Ok}
 use Rattle.rs_value.proofs.ResultFacts.{given-err}
 use Rattle.rs_syntax.specs.Syntax.{command_of}
-use Rattle.rs_events.specs.Events.{finds_in}
+use Rattle.rs_outside.specs.Files.{finds_in}
 use Rattle.rs_events.proofs.SteppedFacts.{Stepped-map}
 use Rattle.rs_run.specs.Parts.Holding.{kept_of, views_in}
 use Rattle.rs_run.specs.Viewing.{DoesByViews, DoesKept}
@@ -13,7 +13,7 @@ use Rattle.rs_run.proofs.viewing.told.Goals as goal
 pub returns-in_err-run_kept : goal.returns-in_err-run_kept
 returns-in_err-run_kept g c =
     let old = g.W.Host.state c.args.host.now in
-    let finds = finds_in old.files.told in
+    let finds = finds_in old.files.contents in
     let command = command_of c.args.statement.now in
     let kept = kept_of c.args.catalog.now (views_in c.args.held.now) in
     let next = kept_of c.run_kept.new.catalog (views_in c.run_kept.new.held) in
@@ -29,7 +29,7 @@ returns-in_err-run_kept g c =
 pub returns : goal.returns
 returns g c =
     let old = g.W.Host.state c.args.host.now in
-    let finds = finds_in old.files.told in
+    let finds = finds_in old.files.contents in
     let command = command_of c.args.statement.now in
     let kept = kept_of c.args.catalog.now (views_in c.args.held.now) in
     let next = kept_of c.run_kept.new.catalog (views_in c.run_kept.new.held) in

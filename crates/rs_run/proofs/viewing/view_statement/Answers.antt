@@ -1,7 +1,7 @@
 use Rattle.std.proofs.Common.{refl}
 use Rattle.rs_syntax.specs.Syntax.{command_of, query_of}
 use Rattle.rs_catalog.specs.IndexesHold.{IndexesHold}
-use Rattle.rs_events.specs.Events.{finds_in}
+use Rattle.rs_outside.specs.Files.{finds_in}
 use Rattle.rs_events.proofs.SteppedFacts.{Stepped-is}
 use Rattle.rs_run.specs.Parts.Holding.{kept_of, views_in}
 use Rattle.rs_run.specs.Viewing.{DoesByViews, declared_step}
@@ -18,7 +18,7 @@ declare_view-requires g c = record {
 pub returns-in-Declare : goal.returns-in-Declare
 returns-in-Declare g c =
     let old = g.W.Host.state c.args.host.now in
-    let finds = finds_in old.files.told in
+    let finds = finds_in old.files.contents in
     let answer = old.scorer.answer in
     let kept = kept_of c.args.catalog.now (views_in c.args.held.now) in record {
       does = rw g.met.W.Host.after_scorer (Stepped-is (DoesByViews finds answer c.args.number kept (command_of c.args.statement.now))
@@ -32,7 +32,7 @@ returns-in-Declare g c =
 pub returns-in-Query : goal.returns-in-Query
 returns-in-Query g c =
     let old = g.W.Host.state c.args.host.now in record {
-      does = Stepped-view_untaken (finds_in old.files.told) old.scorer.answer c.args.number (kept_of c.args.catalog.now (views_in c.args.held.now)) (command_of c.args.statement.now) c.not_eligible.result old
+      does = Stepped-view_untaken (finds_in old.files.contents) old.scorer.answer c.args.number (kept_of c.args.catalog.now (views_in c.args.held.now)) (command_of c.args.statement.now) c.not_eligible.result old
           (rw c.in-Query.is refl) c.not_eligible.ensures;
       indexes = tt;
       stand = tt;
@@ -41,7 +41,7 @@ returns-in-Query g c =
 pub returns-in-Explain : goal.returns-in-Explain
 returns-in-Explain g c =
     let old = g.W.Host.state c.args.host.now in record {
-      does = Stepped-view_untaken (finds_in old.files.told) old.scorer.answer c.args.number (kept_of c.args.catalog.now (views_in c.args.held.now)) (command_of c.args.statement.now) c.not_eligible-in-Explain.result old
+      does = Stepped-view_untaken (finds_in old.files.contents) old.scorer.answer c.args.number (kept_of c.args.catalog.now (views_in c.args.held.now)) (command_of c.args.statement.now) c.not_eligible-in-Explain.result old
           (rw c.in-Explain.is refl) c.not_eligible-in-Explain.ensures;
       indexes = tt;
       stand = tt;
@@ -50,7 +50,7 @@ returns-in-Explain g c =
 pub returns-in-ExplainAnalyze : goal.returns-in-ExplainAnalyze
 returns-in-ExplainAnalyze g c =
     let old = g.W.Host.state c.args.host.now in record {
-      does = Stepped-view_untaken (finds_in old.files.told) old.scorer.answer c.args.number (kept_of c.args.catalog.now (views_in c.args.held.now)) (command_of c.args.statement.now) c.not_eligible-in-ExplainAnalyze.result old
+      does = Stepped-view_untaken (finds_in old.files.contents) old.scorer.answer c.args.number (kept_of c.args.catalog.now (views_in c.args.held.now)) (command_of c.args.statement.now) c.not_eligible-in-ExplainAnalyze.result old
           (rw c.in-ExplainAnalyze.is refl) c.not_eligible-in-ExplainAnalyze.ensures;
       indexes = tt;
       stand = tt;

@@ -1,7 +1,7 @@
 use Rattle.std.proofs.Common.{◌≡◌, ◌+◌}
 use Rattle.rs_syntax.specs.Syntax.{commands_of}
 use Rattle.rs_catalog.specs.IndexesHold.{IndexesHold}
-use Rattle.rs_events.specs.Events.{finds_in}
+use Rattle.rs_outside.specs.Files.{finds_in}
 use Rattle.rs_events.proofs.LoopFacts.{Between}
 use Rattle.rs_run.specs.Parts.Holding.{AllStand, kept_of, views_in}
 use Rattle.rs_run.specs.Viewing.{DoesNextByViews, first_view_statement}
@@ -9,7 +9,7 @@ use Rattle.rs_run.proofs.viewing.view_statements.Given as goal
 
 -- what was done up to the next statement; each index that is there holds the scorer's answers, and each held view stands
 pub record Goes (g : goal.Over) (l : goal.Live-loop-index g) : Type 0 where
-  pub between : Between (DoesNextByViews (finds_in (g.W.Host.state l.fn.host).files.told) (g.W.Host.state l.fn.host).scorer.answer) first_view_statement (commands_of l.fn.statements) l.index
+  pub between : Between (DoesNextByViews (finds_in (g.W.Host.state l.fn.host).files.contents) (g.W.Host.state l.fn.host).scorer.answer) first_view_statement (commands_of l.fn.statements) l.index
       (record { number = l.index + 1; kept = kept_of l.catalog (views_in l.held) }) (g.W.Host.state l.fn.host) (g.W.Host.state l.host)
   pub statements_same : l.statements ≡ l.fn.statements
   pub indexes : IndexesHold (g.W.Host.state l.fn.host).scorer.answer l.catalog

@@ -1,5 +1,7 @@
 use Rattle.std.proofs.Common.{false, true, subst, sym}
+use Rattle.std.specs.Prelude.{None}
 use Rattle.rs_value.specs.Outside.{untold}
+use Rattle.rs_outside.specs.DirFiles.{disk_state}
 use Rattle.rs_value.proofs.ResultFacts.{given-err}
 use Rattle.rs_exec.specs.Cursors.{StandsFor}
 use Rattle.rs_statement.specs.Parts.Asks.{AskedOnce, left_of}
@@ -19,7 +21,7 @@ loop-init g c =
 
 pub ask_next-requires : goal.ask_next-requires
 ask_next-requires g c =
-    let same = (c.loop.invariant.so_far (environment (untold 0) (g.S.Scorer.state c.args.scorer.now) (untold 0) (untold 0))).has.keeps.scorer.answer in
+    let same = (c.loop.invariant.so_far (environment (disk_state (record { faults = 0; last = None })) (g.S.Scorer.state c.args.scorer.now) (untold 0) (untold 0))).has.keeps.scorer.answer in
     subst (λ answer. StandsFor c.args.catalog.now answer c.loop.cursor) (sym same) c.loop.invariant.goes_on.stands
 
 pub returns-in_err-ask_next : goal.returns-in_err-ask_next
@@ -41,7 +43,7 @@ loop-smaller g c =
     let answer = (g.S.Scorer.state c.args.scorer.now).answer in
     let cursor = c.loop.cursor in
     let next = c.ask_next.new.cursor in
-    let same = (c.loop.invariant.so_far (environment (untold 0) (g.S.Scorer.state c.args.scorer.now) (untold 0) (untold 0))).has.keeps.scorer.answer in
+    let same = (c.loop.invariant.so_far (environment (disk_state (record { faults = 0; last = None })) (g.S.Scorer.state c.args.scorer.now) (untold 0) (untold 0))).has.keeps.scorer.answer in
     let asked = subst (λ answer. AskedOnce catalogue answer cursor true next) same
     (subst (λ more. AskedOnce catalogue (g.S.Scorer.state c.loop.scorer).answer cursor more next) c.if-branch.true c.in_ok-ask_next.ensures.next) in
     fewer-asks catalogue answer cursor next (asked-more catalogue answer cursor next c.args.cursor.now c.loop.invariant.goes_on asked) asked.stands
@@ -54,7 +56,7 @@ loop-preserved g c =
     let cursor = c.loop.cursor in
     let next = c.ask_next.new.cursor in
     let goes_on = c.loop.invariant.goes_on in
-    let same = (c.loop.invariant.so_far (environment (untold 0) (g.S.Scorer.state c.args.scorer.now) (untold 0) (untold 0))).has.keeps.scorer.answer in
+    let same = (c.loop.invariant.so_far (environment (disk_state (record { faults = 0; last = None })) (g.S.Scorer.state c.args.scorer.now) (untold 0) (untold 0))).has.keeps.scorer.answer in
     let once = subst (λ more. AskedOnce catalogue here cursor more next) c.if-branch.true c.in_ok-ask_next.ensures.next in record {
       so_far = λ beside. Left-more silent silent-then catalogue answer (silent (left_of catalogue answer c.args.cursor.now)) cursor
           (record beside { scorer = g.S.Scorer.state c.args.scorer.now }) (record beside { scorer = g.S.Scorer.state c.loop.scorer })
@@ -72,7 +74,7 @@ returns g c =
     let next = c.ask_next.new.cursor in
     let whole = silent (left_of catalogue answer c.args.cursor.now) in
     let goes_on = c.loop.invariant.goes_on in
-    let same = (c.loop.invariant.so_far (environment (untold 0) (g.S.Scorer.state c.args.scorer.now) (untold 0) (untold 0))).has.keeps.scorer.answer in
+    let same = (c.loop.invariant.so_far (environment (disk_state (record { faults = 0; last = None })) (g.S.Scorer.state c.args.scorer.now) (untold 0) (untold 0))).has.keeps.scorer.answer in
     let once = subst (λ more. AskedOnce catalogue here cursor more next) c.if-branch.false c.in_ok-ask_next.ensures.next in
     let asked = subst (λ a. AskedOnce catalogue a cursor false next) same once in record {
       asks = λ beside.

@@ -1,7 +1,7 @@
 -- One list more, and at the end all of them.
 use Rattle.std.proofs.Common.{◌+◌, ◌*◌, get_or, sym, ◌∙◌, ap, subst, arith}
 use Rattle.rs_ta.specs.Lists.{IsList, IsRow, list_at, rows_in, score_of}
-use Rattle.rs_ta.proofs.LookupFacts.{looking-counts, looking-start, looking-step, looking-sum}
+use Rattle.rs_ta.proofs.LookupFacts.{looking-counts, looking-start, looking-step, looking-sum, looking-told}
 use Rattle.rs_ta.proofs.lookup.sum_of.Goals as goal
 
 pub loop-place-init : goal.loop-place-init
@@ -28,7 +28,7 @@ loop-place-preserved g c =
     looking-step c.args.weights.now c.args.shown c.args.row (g.L.Lists.state c.args.lists.now) (g.L.Lists.state c.loop-place.lists) (g.L.Lists.state c.score_in-score.new.lists) c.loop-place.place c.loop-place.sum
     c.score_in-score.result c.share-sum.result c.requires.weights c.loop-place.invariant (omega arith) (omega arith) (omega arith) c.score_in-score.ensures.score
     (c.share-sum.ensures ∙ ap (λ n. get_or c.args.weights.now.weight n 0 * c.score_in-score.result) c.from.ensures)
-    c.score_in-score.ensures.lists c.score_in-score.ensures.counts c.score_in-score.ensures.others
+    c.score_in-score.ensures.lists c.score_in-score.ensures.counts c.score_in-score.ensures.others c.score_in-score.ensures.told
 
 pub returns-clause-sum : goal.returns-clause-sum
 returns-clause-sum g c =
@@ -45,3 +45,8 @@ returns-clause-counts g c =
 
 pub returns-clause-others : goal.returns-clause-others
 returns-clause-others g c = c.loop-place.invariant.others
+
+pub returns-clause-told : goal.returns-clause-told
+returns-clause-told g c =
+    let count = c.lists-place-end.ensures.count in
+    looking-told c.args.weights.now.weight c.args.shown c.args.row (g.L.Lists.state c.args.lists.now) (g.L.Lists.state c.loop-place.lists) c.loop-place.place c.loop-place.sum c.loop-place.invariant (omega arith)

@@ -1,8 +1,10 @@
 -- One list more, and at the end of the lists none.
-use Rattle.std.proofs.Common.{ℕ, ◌+◌, ◌*◌, get_or, refl, sym, ◌∙◌, ap, subst, arith}
+use Rattle.std.proofs.Common.{ℕ, ◌+◌, ◌-◌, ◌*◌, get_or, refl, sym, ◌∙◌, ap, subst, arith}
 use Rattle.rs_ta.specs.Depths.{ScanInput}
-use Rattle.rs_ta.specs.Rounds.{CanSee, Saw, input_with}
-use Rattle.rs_ta.proofs.RoundFacts.{Going, going-at_end, going-can, going-on, going-over, going-start, same-input}
+use Rattle.rs_ta.specs.Rounds.{CanSee, Saw, input_with, shown_by}
+use Rattle.rs_ta.specs.Scans.{AreLookedUpWithin}
+use Rattle.rs_ta.proofs.ExtensionFacts.{on_err_from}
+use Rattle.rs_ta.proofs.RoundFacts.{Going, going-at_end, going-can, going-on, going-over, going-refused, going-start, same-input}
 use Rattle.rs_ta.proofs.round.round.Goals as goal
 
 pub loop-place-init : goal.loop-place-init
@@ -15,7 +17,7 @@ returns-in-None-clause-ok g c =
     let inside = c.loop-place-test.true in
     going-at_end (input_with c.args.terms.now (g.L.Lists.state c.args.lists.now) (g.T.RowTest.truth c.args.test.now)) (g.T.RowTest.rows c.args.test.now) c.requires.input
     c.args.rows.now c.loop-place.rows (g.L.Lists.state c.loop-place.lists) (g.L.Lists.state c.sorted.new.self) c.loop-place.place c.loop-place.bound c.loop-place.greatest c.loop-place.invariant
-    (omega arith) c.requires.between.within (sym c.in-None.ensures.entry) c.in-None.ensures.counts c.in-None.ensures.others
+    (omega arith) c.requires.between.within (sym c.in-None.ensures.entry) c.in-None.ensures.counts c.in-None.ensures.others c.in-None.ensures.told
 
 pub loop-place-preserved : goal.loop-place-preserved
 loop-place-preserved g c =
@@ -52,4 +54,18 @@ see-requires g c =
     (same-input c.args.terms.now (g.L.Lists.state c.args.lists.now) (g.L.Lists.state c.sorted.new.self) (g.T.RowTest.truth c.args.test.now) (c.in-Some.ensures.lists ∙ c.loop-place.invariant.lists_are))
     (going-can (input_with c.args.terms.now (g.L.Lists.state c.args.lists.now) (g.T.RowTest.truth c.args.test.now)) (g.T.RowTest.rows c.args.test.now) c.requires.input
     c.args.rows.now c.loop-place.rows (g.L.Lists.state c.loop-place.lists) c.loop-place.place c.loop-place.bound c.loop-place.greatest c.loop-place.invariant (omega arith)
-    c.in-Some.score c.in-Some.row (g.L.Lists.state c.sorted.new.self) (sym c.in-Some.ensures.entry) c.in-Some.ensures.others)
+    c.in-Some.score c.in-Some.row (g.L.Lists.state c.sorted.new.self) (sym c.in-Some.ensures.entry) c.in-Some.ensures.others c.in-Some.ensures.told)
+
+pub returns-in_err-see-in-Some-clause-err : goal.returns-in_err-see-in-Some-clause-err
+returns-in_err-see-in-Some-clause-err g c =
+    let count = c.lists-place-end.ensures.count in
+    let inside = c.loop-place-test.true in
+    let i = input_with c.args.terms.now (g.L.Lists.state c.args.lists.now) (g.T.RowTest.truth c.args.test.now) in
+    let looked = subst (λ (i : ScanInput). AreLookedUpWithin i (g.L.Lists.state c.see.new.lists) (shown_by i.lists c.loop-place.rows.rounds (c.loop-place.place + 1 - 1)) (shown_by i.lists c.loop-place.rows.rounds (c.loop-place.place + 1)))
+    (sym (same-input c.args.terms.now (g.L.Lists.state c.args.lists.now) (g.L.Lists.state c.sorted.new.self) (g.T.RowTest.truth c.args.test.now) (c.in-Some.ensures.lists ∙ c.loop-place.invariant.lists_are)))
+    c.in_err-see-in-Some.ensures.err in
+    on_err_from c.from_residual.result
+    (going-refused i (g.T.RowTest.rows c.args.test.now) c.requires.input
+    c.args.rows.now c.loop-place.rows (g.L.Lists.state c.loop-place.lists) c.loop-place.place c.loop-place.bound c.loop-place.greatest c.loop-place.invariant (omega arith)
+    c.in-Some.score c.in-Some.row (g.L.Lists.state c.sorted.new.self) (g.L.Lists.state c.see.new.lists)
+    (sym c.in-Some.ensures.entry) c.in-Some.ensures.lists c.in-Some.ensures.counts c.in_err-see-in-Some.ensures.sorted looked)

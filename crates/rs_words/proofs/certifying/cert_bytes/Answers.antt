@@ -1,38 +1,20 @@
-use Rattle.std.proofs.Common.{◌∙◌, Ok, length, sym, ap, inr}
+use Rattle.std.proofs.Common.{ℕ}
+use Rattle.std.specs.declared.alloc.Global.{Global}
+use Rattle.std.specs.declared.vec.Vec.{Vec}
 use Rattle.rs_value.proofs.ResultFacts.{given-err}
-use Rattle.rs_cert.specs.Written.{written}
-use Rattle.rs_cert_join.specs.Certs.{cert_of}
-use Rattle.rs_words.proofs.CertifyFacts.{bytes-both, bytes-left, bytes-right, bytes-unjoined, few-rows}
+use Rattle.rs_words.proofs.CertifyFacts.{bytes-of-cert, bytes-unjoined, draws-of-result}
 use Rattle.rs_words.proofs.certifying.cert_bytes.Goals as goal
 
-pub returns-in_err-pairs-clause-bytes : goal.returns-in_err-pairs-clause-bytes
-returns-in_err-pairs-clause-bytes c =
-    let fault = c.in_err-pairs.field-0.0 in
+pub returns-in_err-cert-clause-bytes : goal.returns-in_err-cert-clause-bytes
+returns-in_err-cert-clause-bytes c =
+    let fault = c.in_err-cert.field-0.0 in
     rw (given-err c.from_residual.result fault c.from_residual.ensures)
-    (bytes-unjoined c.args.left.now.rows c.args.right.now.rows c.args.count fault c.in_err-pairs.ensures.pairs)
-
-pub returns-in_err-require_few-clause-bytes : goal.returns-in_err-require_few-clause-bytes
-returns-in_err-require_few-clause-bytes c =
-    let fault = c.in_err-require_few.field-0.0 in
-    rw (given-err c.from_residual-in_err-require_few.result fault c.from_residual-in_err-require_few.ensures)
-    (inr (bytes-left c.args.left.now.rows c.args.right.now.rows c.args.count (cert_of c.first_pairs.new.join c.args.count c.in_ok-pairs.pairs.items) c.in_ok-pairs.ensures.pairs fault c.in_err-require_few.ensures))
-
-pub returns-in_err-require_few-2-clause-bytes : goal.returns-in_err-require_few-2-clause-bytes
-returns-in_err-require_few-2-clause-bytes c =
-    let fault = c.in_err-require_few-2.field-0.0 in
-    rw (given-err c.from_residual-in_err-require_few-2.result fault c.from_residual-in_err-require_few-2.ensures)
-    (inr (bytes-right c.args.left.now.rows c.args.right.now.rows c.args.count (cert_of c.first_pairs.new.join c.args.count c.in_ok-pairs.pairs.items) c.in_ok-pairs.ensures.pairs fault
-    c.in_ok-require_few.ensures c.in_err-require_few-2.ensures))
-
-pub write-requires-clause-left : goal.write-requires-clause-left
-write-requires-clause-left c = few-rows 1 (length c.first_pairs.new.join.left.rows) c.in_ok-require_few.ensures
-
-pub write-requires-clause-right : goal.write-requires-clause-right
-write-requires-clause-right c = few-rows 2 (length c.first_pairs.new.join.right.rows) c.in_ok-require_few-2.ensures
+    (bytes-unjoined c.args.left.now.rows c.args.right.now.rows c.args.count fault c.in_err-cert.ensures.cert)
 
 pub returns-clause-bytes : goal.returns-clause-bytes
 returns-clause-bytes c =
-    bytes-both c.args.left.now.rows c.args.right.now.rows c.args.count (cert_of c.first_pairs.new.join c.args.count c.in_ok-pairs.pairs.items) c.in_ok-pairs.ensures.pairs
-    c.in_ok-require_few.ensures c.in_ok-require_few-2.ensures
-    ∙ ap (λ pairs. Ok (written (cert_of c.first_pairs.new.join c.args.count pairs))) (sym c.deref.ensures.value)
-    ∙ ap Ok (sym c.in_ok-write.ensures.bytes)
+    bytes-of-cert (λ (bytes : Vec ℕ Global). bytes.items) c.args.left.now.rows c.args.right.now.rows c.args.count c.in_ok-cert.cert c.in_ok-cert.ensures.cert c.few_bytes.result c.few_bytes.ensures.bytes
+
+pub returns-clause-draws : goal.returns-clause-draws
+returns-clause-draws c =
+    draws-of-result c.args.left.now.rows c.args.right.now.rows c.args.count c.cert_of_tables.new.left c.cert_of_tables.new.right c.in_ok-cert.ensures.draws (Vec ℕ Global) c.few_bytes.result c.few_bytes.ensures.fault

@@ -3,19 +3,19 @@ use Rattle.rs_value.proofs.ResultFacts.{given-err}
 use Rattle.rs_events.specs.Run.{lines_run}
 use Rattle.rs_events.specs.Running.{Ran}
 use Rattle.rs_events.proofs.RanFacts.{Ran-first}
-use Rattle.rs_words.specs.declared.fault.WordFault.{WordFault}
-use Rattle.rs_words.specs.declared.fault.WordFault.TheVariants.{Memory}
-use Rattle.rs_words.specs.Faults.{put_faults}
+use Rattle.rs_words.specs.declared.fault.PutFault.{PutFault}
+use Rattle.rs_words.specs.declared.fault.PutFault.TheVariants.{Memory}
 use Rattle.rs_words.specs.Lines.{pair_line}
+use Rattle.rs_words.specs.Putting.{pair_faults}
 use Rattle.rs_words.proofs.lines.put_pair.Goals as goal
 
 pub returns-in_err-line : goal.returns-in_err-line
 returns-in_err-line g c = λ beside.
-    let run = lines_run {F = WordFault} (pair_line c.args.rank c.args.pair ∷ []) in
+    let run = lines_run {F = PutFault} (pair_line c.args.rank c.args.pair ∷ []) in
     let at = record beside { out = g.O.Sink.state c.args.out.now } in
-    subst (λ result. Ran put_faults run result at at) (sym (given-err c.from_residual.result Memory c.from_residual.ensures)) (Ran-first run at)
+    subst (λ result. Ran pair_faults run result at at) (sym (given-err c.from_residual.result Memory c.from_residual.ensures)) (Ran-first run at)
 
 pub returns : goal.returns
 returns g c = λ beside.
-    subst (λ (line : List ℕ). Ran put_faults (lines_run (line ∷ [])) c.put_text.result (record beside { out = g.O.Sink.state c.args.out.now }) (record beside { out = g.O.Sink.state c.put_text.new.out }))
+    subst (λ (line : List ℕ). Ran pair_faults (lines_run (line ∷ [])) c.put_text.result (record beside { out = g.O.Sink.state c.args.out.now }) (record beside { out = g.O.Sink.state c.put_text.new.out }))
     c.in_ok-line.ensures (c.put_text.ensures beside)

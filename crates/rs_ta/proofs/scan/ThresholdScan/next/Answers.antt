@@ -1,14 +1,18 @@
 -- What the scan keeps allows the next rounds, and what they leave is where it stands after one more ask.
 use Rattle.std.proofs.Common.{◌≡◌, Bool, true, false, not, sym, ◌∙◌, ap}
-use Rattle.std.specs.Prelude.{Result, Ok, Err, OnOk, is_err, is_some}
-use Rattle.std.proofs.lemmas.Bool.{true≢false}
-use Rattle.rs_ta.proofs.ScanFacts.{next-can, next-few, next-gave, next-input}
+use Rattle.std.specs.Prelude.{Result, Ok, Err, OnErr, OnOk, is_err, is_some}
+use Rattle.std.proofs.lemmas.Bool.{false≢true, true≢false}
+use Rattle.rs_ta.proofs.ScanFacts.{next-can, next-few, next-gave, next-input, next-refused}
 use Rattle.rs_ta.proofs.scan.ThresholdScan.next.Goals as goal
 
 -- what holds of an answer that is no error
 on_ok : {A E P : Type 0} (r : Result A E) → is_err r ≡ false → OnOk r P → P
 on_ok (Ok value) e p = p
 on_ok (Err error) e p = absurd (true≢false e)
+
+on_err : {A E P : Type 0} (r : Result A E) → is_err r ≡ true → OnErr r P → P
+on_err (Ok value) e p = absurd (false≢true e)
+on_err (Err error) e p = p
 
 -- there is none where there isn't some
 is_over : (over some : Bool) → some ≡ not over → over ≡ not some
@@ -48,4 +52,12 @@ returns g c =
       input = gave.input;
       lists = c.advance-gone.ensures.lists;
       err = tt;
+      refused = tt;
     }
+
+pub returns-then-is_err-clause-refused : goal.returns-then-is_err-clause-refused
+returns-then-is_err-clause-refused g c =
+    next-refused c.self.inside.terms c.self.inside.rows c.self.inside.last c.self.inside.ended c.self.inside.spent c.args.self.now (g.L.Lists.state c.args.lists.now) (g.T.RowTest.truth c.args.test.now) (g.T.RowTest.rows c.args.test.now)
+    c.self.view_is c.lists.ensures.ranked c.self.invariant.0 c.self.invariant.1 c.requires.same_rows c.requires.weights c.requires.stands
+    (g.L.Lists.state c.advance-gone.new.lists)
+    (on_err c.advance-gone.result (sym c.is_err.ensures.value ∙ c.if-is_err.true) c.advance-gone.ensures.err)
