@@ -397,7 +397,7 @@ def views():
     twin("view of LIMIT 10, an INSERT", 120000, lambda size: added("view", persons(size) + declare % 10, inserted(900)))
     twin("view of LIMIT 1,000,000, an INSERT", 120000, lambda size: added("view", persons(size) + declare % 10**6, inserted(40), 3))
     joined = "DECLARE k CURSOR FOR SELECT x.c0 FROM t x, t y WHERE x.c0 = y.c0 AND x.c1 < y.c1 ORDER BY near(x.c1, y.c1) LIMIT 10;\n"
-    for rows in (1, 16, 17):
+    for rows in (1, 16, 64, 65):
         twin("view of a self-join, an INSERT of %d" % rows, 100000, lambda size, rows=rows: added("view", persons(size) + joined, inserted(400 // rows, rows), 3))
     third = joined.replace("t y WHERE", "t y, t z WHERE z.c0 = y.c0 AND")
     twin("view of three entries, an INSERT of 1", 100000, lambda size: added("view", persons(size) + third, inserted(20), 1))

@@ -1,6 +1,7 @@
 //! Views that are kept while rows join their tables.
 
 ghost use Rattle.std.specs.Prelude.{◌≡◌, IfOk};
+ghost use Rattle.rs_expr.specs.Scoring.{Answering};
 ghost use Rattle.rs_query.specs.Growth.{CatalogueGrows};
 ghost use Rattle.rs_query.specs.WellFormed.{IsQuery};
 ghost use Rattle.rs_syntax.specs.Syntax.{command_of, commands_of};
@@ -14,7 +15,6 @@ use rs_catalog::Catalog;
 use rs_expr::{MemScorer, Scorer};
 use rs_plain::PlainFault;
 use rs_query::{Query, catalogues_grow};
-use rs_rank::Answer;
 use rs_syntax::Statement;
 use rs_view::{View, is_keepable, views_go_on_to_stand};
 use std::alloc::Global;
@@ -52,7 +52,7 @@ fn tell_along<S: Scorer>(
     let query = keepable_of(alloc, catalog, first)?;
     match View::make(alloc, catalog, query, scorer) {
         Ok(mut view) => {
-            tell_rows(view.rows(), told)?;
+            tell_rows(alloc, catalog, &view, told)?;
             grow_along(alloc, catalog, &mut view, inserts, scorer, told)
         }
         Err(fault) => tell_fault(fault, told),
@@ -112,7 +112,7 @@ fn grow_behind<S: Scorer>(
     views_go_on_to_stand();
     join(alloc, catalog, statement, scorer)?;
     match view.grow(alloc, catalog, scorer) {
-        Ok(()) => tell_rows(view.rows(), told),
+        Ok(()) => tell_rows(alloc, catalog, view, told),
         Err(fault) => tell_fault(fault, told),
     }
 }
@@ -141,9 +141,12 @@ fn join<S: Scorer>(
     }
 }
 
-fn tell_rows(rows: &[Answer], told: &mut String) -> Result<(), Fault> {
+fn tell_rows(alloc: Global, catalog: &Catalog, view: &View, told: &mut String) -> Result<(), Fault>
+    requires { (answer : Answering) × Stands answer catalog.now view.now }
+{
     told.push_str("rows")?;
-    for row in rows {
+    let rows = view.rows(alloc, catalog, 0, view.len())?;
+    for row in &rows {
         tell_answer(row, told)?;
     }
     Ok(told.push_str("\n")?)

@@ -72,7 +72,8 @@ IsUnranked-of catalogue written block terms narrow h =
 IsBlock-of : (catalogue : CatalogDef) (written : syntax.Block) (block : Unranked) (terms : List Term) → IsWrittenBlock written
     → IsUnranked catalogue written block terms → length terms ≤ 8 → AllByRecursion (IsTerm catalogue (with_terms block terms)) terms
     → IsBlock catalogue (with_terms block terms)
-IsBlock-of catalogue written block terms some h most are =
+IsBlock-of catalogue written block terms is h most are =
+    let some = is.some in
     let many = h.entries.many in
     let most_entries = h.entries.most in
     let most_items = h.items.most in

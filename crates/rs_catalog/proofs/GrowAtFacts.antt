@@ -1,5 +1,5 @@
 -- What becomes of one index as rows join a table.
-use Rattle.std.proofs.Common.{ℕ, ◌≡◌, ◌∙◌, ◌+◌, ◌<◌, ◌≤◌, Bool, true, false, List, [], length, refl, sym, ap, subst, inl, arith, eq-eqb, if◌then◌else◌}
+use Rattle.std.proofs.Common.{ℕ, ◌≡◌, ◌∙◌, ◌+◌, ◌<◌, ◌≤◌, ◌++◌, Bool, true, false, List, [], length, refl, sym, ap, subst, inl, arith, eq-eqb, if◌then◌else◌}
 use Rattle.std.specs.Prelude.{Option, None, Some, Ok, option_map, slice_get, unwrap_or, ◌==◌, pos, Result}
 use Rattle.std.proofs.lemmas.Bool.{ne_eqb}
 use Rattle.std.proofs.lemmas.List.{length-map}
@@ -12,6 +12,7 @@ use Rattle.rs_expr.specs.InOrder.{Inquires, Inquiry}
 use Rattle.rs_expr.specs.Predicates.{PredicateDef}
 use Rattle.rs_expr.specs.Scoring.{Answering, ScorerState}
 use Rattle.rs_expr.proofs.ScoringFacts.{KeepsScorer-refl, Made-none}
+use Rattle.rs_rank.specs.Stable.{stable}
 use Rattle.rs_catalog.specs.Catalog.{CatalogDef, NamedTable, RankIndex}
 use Rattle.rs_catalog.specs.Growing.{CanJoin, comes_to, growing_index, scoring_new, scorings_new, with_entries}
 use Rattle.rs_catalog.specs.Grown.{IsGrown, finished, index_in}
@@ -58,6 +59,7 @@ pub IsGrown-other : (catalogue : CatalogDef) (table more : ℕ) (index : RankInd
 IsGrown-other catalogue table more index differ = record {
   of_table = λ ranked e. cc;
   of_others = λ none. differ;
+  ordered = λ ranked e. cc;
   ranking = λ ranked e. cc;
   scores = λ ranked e. cc;
 }
@@ -107,17 +109,20 @@ module _ (catalogue : CatalogDef) (table : ℕ) (rows : List (List Value)) (stor
       (subst (λ n. Inquires Memory (finished (λ entries. with_entries entries (index_in stored)) (scorings_new answer number (predicate_for catalogue stored.def) stored.def.args (n + 1) rows)) result old new) is.size
       (subst (λ (p : PredicateDef). Inquires Memory (finished (λ entries. with_entries entries (index_in stored)) (scorings_new answer number p stored.def.args (length stored.scores.items + 1) rows)) result old new) (sym is.predicate_is) inquires))
 
-  pub IsGrown-own : (ranked : Ranked) → stored.def.table ≡ table → IsRanking (length stored.scores.items + length rows) predicate.max ranked.ranking.items → AreScores ranked.ranking.items ranked.scores.items
+  pub IsGrown-own : (ranked : Ranked) → stored.def.table ≡ table → stable (λ row. row.score) ranked.ranking.items ≡ ranked.ranking.items
+      → IsRanking (length stored.scores.items + length rows) predicate.max (with_entries ranked.ranking.items (index_in stored)).ranking
+      → ((scores : List ℕ) → AreScores stored.ranking.items scores → AreScores (with_entries ranked.ranking.items (index_in stored)).ranking (scores ++ ranked.scores.items))
       → IsGrown catalogue table (length rows) (index_in stored) (Some ranked)
-  IsGrown-own ranked own ranking scores =
-      let here : IsRanking (length (rows_for catalogue stored.def) + length rows) (predicate_for catalogue stored.def).max ranked.ranking.items =
-      subst (λ n. IsRanking (n + length rows) (predicate_for catalogue stored.def).max ranked.ranking.items) is.size
-      (subst (λ (p : PredicateDef). IsRanking (length stored.scores.items + length rows) p.max ranked.ranking.items) (sym is.predicate_is) ranking) in
+  IsGrown-own ranked own ordered ranking scores =
+      let here : IsRanking (length (rows_for catalogue stored.def) + length rows) (predicate_for catalogue stored.def).max (with_entries ranked.ranking.items (index_in stored)).ranking =
+      subst (λ n. IsRanking (n + length rows) (predicate_for catalogue stored.def).max (with_entries ranked.ranking.items (index_in stored)).ranking) is.size
+      (subst (λ (p : PredicateDef). IsRanking (length stored.scores.items + length rows) p.max (with_entries ranked.ranking.items (index_in stored)).ranking) (sym is.predicate_is) ranking) in
       record {
         of_table = λ other e. own;
         of_others = λ none. absurd (let e : Some ranked ≡ None = none in cc);
-        ranking = λ other e. let same : ranked ≡ other = cc in subst (λ (r : Ranked). IsRanking (length (rows_for catalogue stored.def) + length rows) (predicate_for catalogue stored.def).max r.ranking.items) same here;
-        scores = λ other e. let same : ranked ≡ other = cc in subst (λ (r : Ranked). AreScores r.ranking.items r.scores.items) same scores;
+        ordered = λ other e. let same : ranked ≡ other = cc in subst (λ (r : Ranked). stable (λ row. row.score) r.ranking.items ≡ r.ranking.items) same ordered;
+        ranking = λ other e. let same : ranked ≡ other = cc in subst (λ (r : Ranked). IsRanking (length (rows_for catalogue stored.def) + length rows) (predicate_for catalogue stored.def).max (with_entries r.ranking.items (index_in stored)).ranking) same here;
+        scores = λ other e. let same : ranked ≡ other = cc in subst (λ (r : Ranked). (scores : List ℕ) → AreScores stored.ranking.items scores → AreScores (with_entries r.ranking.items (index_in stored)).ranking (scores ++ r.scores.items)) same scores;
       }
 
 -- a kept index is the one of this number in the catalogue

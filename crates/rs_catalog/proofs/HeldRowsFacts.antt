@@ -10,9 +10,8 @@ use Rattle.rs_expr.specs.InOrder.{Inquiry, InquiryEnds, InquiryFails, InquirySto
 use Rattle.rs_expr.specs.Predicates.{PredicateDef}
 use Rattle.rs_expr.specs.Scores.{as_score, is_score}
 use Rattle.rs_expr.specs.Scoring.{Answering, ScorerState}
-use Rattle.rs_rank.specs.Stable.{put_all, stable}
+use Rattle.rs_rank.specs.Stable.{stable}
 use Rattle.rs_rank.specs.declared.scored_row.ScoredRow.{ScoredRow}
-use Rattle.rs_rank.proofs.StableFacts.{Falls-stable, Falls-unique, of_score-stable}
 use Rattle.rs_catalog.specs.Catalog.{CatalogDef, NamedTable, RankIndex}
 use Rattle.rs_catalog.specs.Growing.{CanJoin, GrowsBy, catalogue_grown, grown, growing, growing_index, in_turn, scoring_new, scorings_new, with_entries, with_rows_in}
 use Rattle.rs_catalog.specs.Grown.{finished}
@@ -25,7 +24,7 @@ use Rattle.rs_catalog.specs.declared.index.IndexFault.{IndexFault}
 use Rattle.rs_catalog.proofs.GrowAtFacts.{growing_index-other, growing_index-own}
 use Rattle.rs_catalog.proofs.InTurnFacts.{Parts-in_turn, in_turn-err, in_turn-ok}
 use Rattle.rs_catalog.proofs.JoinRowsFacts.{with_rows_in-other, with_rows_in-own}
-use Rattle.rs_catalog.proofs.MoreFacts.{put_all-append}
+use Rattle.rs_catalog.proofs.MergeFacts.{put_all-append, stable-again, stable-behind}
 use Rattle.rs_catalog.proofs.RankingFacts.{score, sorted-from}
 use Rattle.rs_catalog.proofs.ScoreFacts.{appended-appended, appended-nil, entry_of, scored_from-bad, scored_from-score}
 
@@ -37,14 +36,9 @@ in_turn-each ask P Q step n (x ∷ xs) all each e =
     let parts = Parts-in_turn ask n x xs all e in
     subst (AllByRecursion Q) parts.all_are (step n x parts.first each.0 parts.first_is, in_turn-each ask P Q step (n + 1) xs parts.others each.1 parts.others_are)
 
--- a stable order of a stable order is the same, and rows that are put behind it are put into it
-stable-again : (entries : List ScoredRow) → stable score (stable score entries) ≡ stable score entries
-stable-again entries = Falls-unique score (stable score (stable score entries)) (stable score entries) (Falls-stable score (stable score entries)) (Falls-stable score entries)
-    (λ row. of_score-stable score row.score (stable score entries))
-
+-- rows that are put behind a stable order are put into it
 stable-joined : (first more : List ScoredRow) → stable score (stable score first ++ more) ≡ stable score (first ++ more)
-stable-joined first more =
-    put_all-append (stable score first) more [] ∙ ap (λ all. put_all score all more) (stable-again first) ∙ sym (put_all-append first more [])
+stable-joined first more = stable-behind score (stable score first) more (stable-again score first) ∙ sym (put_all-append score first more [])
 
 module _ (f : List Value → ℤ) (max : ℕ) where
   -- rows behind others

@@ -1,6 +1,7 @@
 -- Rows that join a table, and what becomes of the indexes: what is inside a catalogue stays so.
 use Rattle.std.proofs.Common.{ℕ, zero, suc, ◌≡◌, ◌∙◌, ◌+◌, ◌<◌, ◌≤◌, ◌++◌, List, [], ◌∷◌, length, get_or, map, take, refl, sym, ap, subst, arith, true, length-append}
-use Rattle.std.proofs.lemmas.List.{length-take-le, take_more}
+use Rattle.std.proofs.lemmas.List.{length-map, length-take-le, take_more}
+use Rattle.std.proofs.lemmas.Option.{slice_get_within}
 use Rattle.std.specs.Prelude.{Option, None, Some, option_map, slice_get, unwrap_or}
 use Rattle.std.specs.List.{AllByRecursion}
 use Rattle.std.specs.Map.{keys_of, values_of}
@@ -11,11 +12,13 @@ use Rattle.rs_table.specs.Relation.{Relation, most_rows}
 use Rattle.rs_expr.specs.Predicates.{PredicateDef}
 use Rattle.rs_catalog.specs.Catalog.{CatalogDef, NamedTable, RankIndex}
 use Rattle.rs_catalog.specs.Growing.{CanJoin, grown, with_rows_in}
-use Rattle.rs_catalog.specs.Grown.{AreGrown, IsGrown, all_renewed, index_in, renewed, renewed_at, renewed_entries, renewed_entry, with_rows_at}
+use Rattle.rs_catalog.specs.Grown.{AllOrdered, AreGrown, AreOrdered, HasRoom, HaveRoom, IsGrown, KeptIndex, OthersStay, all_renewed, all_renewed_kept, index_in, kept_in, renewed, renewed_at, renewed_kept, with_rows_at}
 use Rattle.rs_catalog.specs.Indexes.{IsRanking, args_fit, predicate_for, rows_for}
 use Rattle.rs_catalog.specs.Inside.{AreScores, IsInside, IsRanked, NamesDiffer, catalogue_of}
 use Rattle.rs_catalog.specs.declared.catalog.RankIndex.{RankIndex as StoredIndex}
 use Rattle.rs_catalog.specs.declared.ranked.Ranked.{Ranked}
+use Rattle.rs_catalog.proofs.MoreFacts.{stable-ordered}
+use Rattle.rs_rank.specs.Stable.{stable}
 
 -- indexes with what became of them, and of one more
 pub all_renewed-push : (indexes : List RankIndex) (grown : List (Option Ranked)) (index : RankIndex) (last : Option Ranked) → length indexes ≡ length grown
@@ -36,53 +39,86 @@ AreGrown-push catalogue table more [] (g ∷ grown) index last at are is = tt
 AreGrown-push catalogue table more (i ∷ indexes) [] index last at are is = let same : i ≡ index = cc in (subst (λ w. IsGrown catalogue table more w last) (sym same) is, AreGrown-none catalogue table more indexes)
 AreGrown-push catalogue table more (i ∷ indexes) (g ∷ grown) index last at are is = (are.0, AreGrown-push catalogue table more indexes grown index last at are.1 is)
 
--- entries of which none is left to renew, and one more
-pub renewed_entries-none : (entries : List (List ℕ × StoredIndex)) → renewed_entries entries [] ≡ entries
-renewed_entries-none [] = refl
-renewed_entries-none (entry ∷ entries) = refl
+-- indexes of which none is left to take rows, and one more
+pub all_renewed_kept-none : (kept : List KeptIndex) → all_renewed_kept kept [] ≡ kept
+all_renewed_kept-none [] = refl
+all_renewed_kept-none (index ∷ kept) = refl
 
-pub renewed_entries-last : (entries : List (List ℕ × StoredIndex)) (grown : List (Option Ranked)) (last : Option Ranked)
-    → renewed_entries entries (grown ++ last ∷ []) ≡ renewed_entries (renewed_at (length grown) last entries) grown
-renewed_entries-last [] [] last = refl
-renewed_entries-last [] (g ∷ grown) last = refl
-renewed_entries-last (entry ∷ entries) [] last = ap (λ rest. renewed_entry last entry ∷ rest) (renewed_entries-none entries)
-renewed_entries-last (entry ∷ entries) (g ∷ grown) last = ap (λ rest. renewed_entry g entry ∷ rest) (renewed_entries-last entries grown last)
+pub all_renewed_kept-last : (kept : List KeptIndex) (grown : List (Option Ranked)) (last : Option Ranked)
+    → all_renewed_kept kept (grown ++ last ∷ []) ≡ all_renewed_kept (renewed_at (length grown) last kept) grown
+all_renewed_kept-last [] [] last = refl
+all_renewed_kept-last [] (g ∷ grown) last = refl
+all_renewed_kept-last (index ∷ kept) [] last = ap (λ rest. renewed_kept last index ∷ rest) (all_renewed_kept-none kept)
+all_renewed_kept-last (index ∷ kept) (g ∷ grown) last = ap (λ rest. renewed_kept g index ∷ rest) (all_renewed_kept-last kept grown last)
 
-pub renewed_at-none : (place : ℕ) (entries : List (List ℕ × StoredIndex)) → renewed_at place None entries ≡ entries
+pub renewed_at-none : (place : ℕ) (kept : List KeptIndex) → renewed_at place None kept ≡ kept
 renewed_at-none place [] = refl
-renewed_at-none zero (entry ∷ entries) = refl
-renewed_at-none (suc place) (entry ∷ entries) = ap (λ rest. entry ∷ rest) (renewed_at-none place entries)
+renewed_at-none zero (index ∷ kept) = refl
+renewed_at-none (suc place) (index ∷ kept) = ap (λ rest. index ∷ rest) (renewed_at-none place kept)
 
-pub length-renewed_at : (place : ℕ) (last : Option Ranked) (entries : List (List ℕ × StoredIndex)) → length (renewed_at place last entries) ≡ length entries
+-- an index in front of the place stays
+pub renewed_at-before : (place : ℕ) (last : Option Ranked) (kept : List KeptIndex) (i : ℕ) → i < place → slice_get (renewed_at place last kept) i ≡ slice_get kept i
+renewed_at-before place last [] i before = refl
+renewed_at-before zero last (index ∷ kept) i before = absurd (omega arith)
+renewed_at-before (suc place) last (index ∷ kept) zero before = refl
+renewed_at-before (suc place) last (index ∷ kept) (suc i) before = renewed_at-before place last kept i (omega arith)
+
+pub length-renewed_at : (place : ℕ) (last : Option Ranked) (kept : List KeptIndex) → length (renewed_at place last kept) ≡ length kept
 length-renewed_at place last [] = refl
-length-renewed_at zero last (entry ∷ entries) = refl
-length-renewed_at (suc place) last (entry ∷ entries) = ap suc (length-renewed_at place last entries)
+length-renewed_at zero last (index ∷ kept) = refl
+length-renewed_at (suc place) last (index ∷ kept) = ap suc (length-renewed_at place last kept)
 
--- names and numbers of entries stay
-key-renewed : (last : Option Ranked) (entry : List ℕ × StoredIndex) → (renewed_entry last entry).0 ≡ entry.0
-key-renewed None entry = refl
-key-renewed (Some ranked) entry = refl
+-- names and numbers of indexes stay
+abbrev names_kept : List KeptIndex → List (List ℕ)
+names_kept kept = map (λ (k : KeptIndex). k.name) kept
 
-keys-renewed : (entries : List (List ℕ × StoredIndex)) (grown : List (Option Ranked)) → keys_of (renewed_entries entries grown) ≡ keys_of entries
+name-renewed : (last : Option Ranked) (index : KeptIndex) → (renewed_kept last index).name ≡ index.name
+name-renewed None index = refl
+name-renewed (Some ranked) index = refl
+
+keys-renewed : (kept : List KeptIndex) (grown : List (Option Ranked)) → names_kept (all_renewed_kept kept grown) ≡ names_kept kept
 keys-renewed [] grown = refl
-keys-renewed (entry ∷ entries) [] = refl
-keys-renewed (entry ∷ entries) (g ∷ grown) = ap (λ key. key ∷ keys_of (renewed_entries entries grown)) (key-renewed g entry) ∙ ap (λ keys. entry.0 ∷ keys) (keys-renewed entries grown)
+keys-renewed (index ∷ kept) [] = refl
+keys-renewed (index ∷ kept) (g ∷ grown) = ap (λ name. name ∷ names_kept (all_renewed_kept kept grown)) (name-renewed g index) ∙ ap (λ names. index.name ∷ names) (keys-renewed kept grown)
 
-length-renewed : (entries : List (List ℕ × StoredIndex)) (grown : List (Option Ranked)) → length (renewed_entries entries grown) ≡ length entries
+length-renewed : (kept : List KeptIndex) (grown : List (Option Ranked)) → length (all_renewed_kept kept grown) ≡ length kept
 length-renewed [] grown = refl
-length-renewed (entry ∷ entries) [] = refl
-length-renewed (entry ∷ entries) (g ∷ grown) = ap suc (length-renewed entries grown)
+length-renewed (index ∷ kept) [] = refl
+length-renewed (index ∷ kept) (g ∷ grown) = ap suc (length-renewed kept grown)
 
 -- what contracts see of them
-index_in-renewed : (last : Option Ranked) (entry : List ℕ × StoredIndex) → index_in (renewed_entry last entry).1 ≡ renewed last (index_in entry.1)
-index_in-renewed None entry = refl
-index_in-renewed (Some ranked) entry = refl
+abbrev as_index : KeptIndex → RankIndex
+as_index kept = record { def = kept.def; ranking = kept.ranking }
 
-pub indexes-renewed : (entries : List (List ℕ × StoredIndex)) (grown : List (Option Ranked)) → map index_in (values_of (renewed_entries entries grown)) ≡ all_renewed (map index_in (values_of entries)) grown
+as_index-renewed : (last : Option Ranked) (index : KeptIndex) → as_index (renewed_kept last index) ≡ renewed last (as_index index)
+as_index-renewed None index = refl
+as_index-renewed (Some ranked) index = refl
+
+pub indexes-renewed : (kept : List KeptIndex) (grown : List (Option Ranked)) → map as_index (all_renewed_kept kept grown) ≡ all_renewed (map as_index kept) grown
 indexes-renewed [] grown = refl
-indexes-renewed (entry ∷ entries) [] = refl
-indexes-renewed (entry ∷ entries) (g ∷ grown) =
-    ap (λ first. first ∷ map index_in (values_of (renewed_entries entries grown))) (index_in-renewed g entry) ∙ ap (λ rest. renewed g (index_in entry.1) ∷ rest) (indexes-renewed entries grown)
+indexes-renewed (index ∷ kept) [] = refl
+indexes-renewed (index ∷ kept) (g ∷ grown) =
+    ap (λ first. first ∷ map as_index (all_renewed_kept kept grown)) (as_index-renewed g index) ∙ ap (λ rest. renewed g (as_index index) ∷ rest) (indexes-renewed kept grown)
+
+-- names, definitions and scores of the indexes of a map
+keys-kept : (entries : List (List ℕ × StoredIndex)) → names_kept (map kept_in entries) ≡ keys_of entries
+keys-kept [] = refl
+keys-kept (entry ∷ entries) = ap (λ keys. entry.0 ∷ keys) (keys-kept entries)
+
+indexes-kept : (entries : List (List ℕ × StoredIndex)) → map as_index (map kept_in entries) ≡ map index_in (values_of entries)
+indexes-kept [] = refl
+indexes-kept (entry ∷ entries) = ap (λ rest. index_in entry.1 ∷ rest) (indexes-kept entries)
+
+abbrev HasScores : KeptIndex → Type 0
+HasScores kept = AreScores kept.ranking kept.scores
+
+scored-kept : (entries : List (List ℕ × StoredIndex)) → AllByRecursion (λ (index : StoredIndex). AreScores index.ranking.items index.scores.items) (values_of entries) → AllByRecursion HasScores (map kept_in entries)
+scored-kept [] all = tt
+scored-kept (entry ∷ entries) all = (all.0, scored-kept entries all.1)
+
+kept-scored : (entries : List (List ℕ × StoredIndex)) → AllByRecursion HasScores (map kept_in entries) → AllByRecursion (λ (index : StoredIndex). AreScores index.ranking.items index.scores.items) (values_of entries)
+kept-scored [] all = tt
+kept-scored (entry ∷ entries) all = (all.0, kept-scored entries all.1)
 
 def-renewed : (last : Option Ranked) (index : RankIndex) → (renewed last index).def ≡ index.def
 def-renewed None index = refl
@@ -148,7 +184,7 @@ module _ (catalogue : CatalogDef) (table : ℕ) (rows : List (List Value)) (inde
   later = grown table rows indexes catalogue
 
   -- an index of the table is one of the catalogue with the rows
-  IsRanked-own : (index : RankIndex) (ranked : Ranked) → index.def.table ≡ table → IsRanked catalogue index → IsRanking (length (rows_for catalogue index.def) + length rows) (predicate_for catalogue index.def).max ranked.ranking.items
+  IsRanked-own : (index : RankIndex) (ranked : Ranked) → index.def.table ≡ table → IsRanked catalogue index → IsRanking (length (rows_for catalogue index.def) + length rows) (predicate_for catalogue index.def).max (renewed (Some ranked) index).ranking
       → IsRanked later (renewed (Some ranked) index)
   IsRanked-own index ranked own is ranking =
       let fits = is.fits in
@@ -170,7 +206,7 @@ module _ (catalogue : CatalogDef) (table : ℕ) (rows : List (List Value)) (inde
           has_predicate = fits.has_predicate;
           fits = subst (λ (t : NamedTable). args_fit t.table.schema fits.predicate.params index.def.args ≡ true) same fits.fits;
         };
-        ranking = subst (λ n. IsRanking n (predicate_for catalogue index.def).max ranked.ranking.items) (sym size) ranking;
+        ranking = subst (λ n. IsRanking n (predicate_for catalogue index.def).max (renewed (Some ranked) index).ranking) (sym size) ranking;
       }
 
   -- an index of another table stays as it was
@@ -194,47 +230,105 @@ module _ (catalogue : CatalogDef) (table : ℕ) (rows : List (List Value)) (inde
   ranked-renewed (index ∷ some) [] same are all = absurd (omega arith)
   ranked-renewed (index ∷ some) (g ∷ last) same are all = (IsRanked-renewed index g are.0 all.0, ranked-renewed some last (omega arith) are.1 all.1)
 
--- the scores of entries are those of their rankings
-scored-renewed : (catalogue : CatalogDef) (table more : ℕ) (entries : List (List ℕ × StoredIndex)) (grown : List (Option Ranked)) → AreGrown catalogue table more (map index_in (values_of entries)) grown
-    → AllByRecursion (λ (index : StoredIndex). AreScores index.ranking.items index.scores.items) (values_of entries)
-    → AllByRecursion (λ (index : StoredIndex). AreScores index.ranking.items index.scores.items) (values_of (renewed_entries entries grown))
+-- the scores of indexes are those of their rankings
+scored-renewed : (catalogue : CatalogDef) (table more : ℕ) (kept : List KeptIndex) (grown : List (Option Ranked)) → AreGrown catalogue table more (map as_index kept) grown
+    → AllByRecursion HasScores kept → AllByRecursion HasScores (all_renewed_kept kept grown)
 scored-renewed catalogue table more [] grown are all = tt
-scored-renewed catalogue table more (entry ∷ entries) [] are all = all
-scored-renewed catalogue table more (entry ∷ entries) (None ∷ grown) are all = (all.0, scored-renewed catalogue table more entries grown are.1 all.1)
-scored-renewed catalogue table more (entry ∷ entries) (Some ranked ∷ grown) are all = (are.0.scores ranked refl, scored-renewed catalogue table more entries grown are.1 all.1)
+scored-renewed catalogue table more (index ∷ kept) [] are all = all
+scored-renewed catalogue table more (index ∷ kept) (None ∷ grown) are all = (all.0, scored-renewed catalogue table more kept grown are.1 all.1)
+scored-renewed catalogue table more (index ∷ kept) (Some ranked ∷ grown) are all = (are.0.scores ranked refl index.scores all.0, scored-renewed catalogue table more kept grown are.1 all.1)
+
+-- new rows and those of a ranking are in order
+pub AllOrdered-grown : (catalogue : CatalogDef) (table more : ℕ) (kept : List KeptIndex) (grown : List (Option Ranked)) → AreGrown catalogue table more (map as_index kept) grown
+    → AllByRecursion (IsRanked catalogue) (map as_index kept) → AllOrdered kept grown
+AllOrdered-grown catalogue table more kept [] are ranked place one index at here = cc
+AllOrdered-grown catalogue table more [] (g ∷ grown) are ranked place one index at here = cc
+AllOrdered-grown catalogue table more (first ∷ kept) (g ∷ grown) are ranked zero one index at here =
+    let same : g ≡ Some one = cc in
+    let own : first ≡ index = cc in
+    subst (λ (k : KeptIndex). AreOrdered one k.ranking) own (record { old = stable-ordered first.ranking ranked.0.ranking.ordered; new = are.0.ordered one same })
+AllOrdered-grown catalogue table more (first ∷ kept) (g ∷ grown) are ranked (suc place) one index at here = AllOrdered-grown catalogue table more kept grown are.1 ranked.1 place one index at here
+
+pub AllOrdered-indexes : (tables : List (List ℕ × Relation)) (predicates : List (List ℕ × PredicateDef)) (indexes : List (List ℕ × StoredIndex)) → IsInside tables predicates indexes → (table more : ℕ) (last : List (Option Ranked))
+    → AreGrown (catalogue_of tables predicates indexes) table more (catalogue_of tables predicates indexes).indexes last → AllOrdered (map kept_in indexes) last
+AllOrdered-indexes tables predicates indexes inside table more last are =
+    AllOrdered-grown (catalogue_of tables predicates indexes) table more (map kept_in indexes) last
+    (subst (λ some. AreGrown (catalogue_of tables predicates indexes) table more some last) (sym (indexes-kept indexes)) are)
+    (subst (AllByRecursion (IsRanked (catalogue_of tables predicates indexes))) (sym (indexes-kept indexes)) inside.ranked)
+
+-- indexes that are the same but for what their lists are kept in
+module _ (tables : List (List ℕ × Relation)) (predicates : List (List ℕ × PredicateDef)) (indexes news : List (List ℕ × StoredIndex)) (same : map kept_in news ≡ map kept_in indexes) where
+  pub catalogue-kept : catalogue_of tables predicates news ≡ catalogue_of tables predicates indexes
+  catalogue-kept =
+      ap (λ (indexes : List RankIndex). record { tables = map named_table tables; predicates = values_of predicates; indexes = indexes })
+      (sym (indexes-kept news) ∙ ap (map as_index) same ∙ indexes-kept indexes)
+
+  pub keys-same : keys_of news ≡ keys_of indexes
+  keys-same = sym (keys-kept news) ∙ ap names_kept same ∙ keys-kept indexes
+
+  pub length-same : length news ≡ length indexes
+  length-same = sym (length-map news kept_in) ∙ ap length same ∙ length-map indexes kept_in
+
+  pub IsInside-kept : IsInside tables predicates indexes → IsInside tables predicates news
+  IsInside-kept inside =
+      let few = inside.few_indexes in
+      record {
+        few_tables = inside.few_tables;
+        few_predicates = inside.few_predicates;
+        few_indexes = omega (arith, length-same);
+        few_rows = inside.few_rows;
+        low_scores = inside.low_scores;
+        tables_differ = inside.tables_differ;
+        predicates_differ = inside.predicates_differ;
+        indexes_differ = subst NamesDiffer (sym keys-same) inside.indexes_differ;
+        predicate_keys = inside.predicate_keys;
+        index_keys = keys-same ∙ inside.index_keys ∙ ap (λ (c : CatalogDef). map (λ (i : RankIndex). i.def.name) c.indexes) (sym catalogue-kept);
+        scored = kept-scored news (subst (AllByRecursion HasScores) (sym same) (scored-kept indexes inside.scored));
+        ranked = subst (λ (c : CatalogDef). AllByRecursion (IsRanked c) c.indexes) (sym catalogue-kept) inside.ranked;
+      }
 
 module _ (tables : List (List ℕ × Relation)) (predicates : List (List ℕ × PredicateDef)) (indexes : List (List ℕ × StoredIndex)) (inside : IsInside tables predicates indexes)
-    (table : ℕ) (rows : List (List Value)) (last : List (Option Ranked)) (join : CanJoin (catalogue_of tables predicates indexes) table rows) where
-  -- the catalogue with the rows, and with what became of the indexes
-  pub catalogue-grown : catalogue_of (with_rows_at table rows tables) predicates (renewed_entries indexes last)
+    (table : ℕ) (rows : List (List Value)) (last : List (Option Ranked)) (join : CanJoin (catalogue_of tables predicates indexes) table rows)
+    (news : List (List ℕ × StoredIndex)) (are_new : map kept_in news ≡ all_renewed_kept (map kept_in indexes) last) where
+  indexes-new : map index_in (values_of news) ≡ all_renewed (map index_in (values_of indexes)) last
+  indexes-new = sym (indexes-kept news) ∙ ap (map as_index) are_new ∙ indexes-renewed (map kept_in indexes) last ∙ ap (λ indexes. all_renewed indexes last) (indexes-kept indexes)
+
+  keys-new : keys_of news ≡ keys_of indexes
+  keys-new = sym (keys-kept news) ∙ ap names_kept are_new ∙ keys-renewed (map kept_in indexes) last ∙ keys-kept indexes
+
+  length-new : length news ≡ length indexes
+  length-new = sym (length-map news kept_in) ∙ ap length are_new ∙ length-renewed (map kept_in indexes) last ∙ length-map indexes kept_in
+
+  -- the catalogue with the rows, and with those that the indexes took
+  pub catalogue-grown : catalogue_of (with_rows_at table rows tables) predicates news
       ≡ grown table rows (all_renewed (catalogue_of tables predicates indexes).indexes last) (catalogue_of tables predicates indexes)
   catalogue-grown = λ i. record {
     tables = tables-with_rows table rows tables i;
     predicates = values_of predicates;
-    indexes = indexes-renewed indexes last i;
+    indexes = indexes-new i;
   }
 
   -- is inside too
   pub IsInside-grown : length (catalogue_of tables predicates indexes).indexes ≡ length last → AreGrown (catalogue_of tables predicates indexes) table (length rows) (catalogue_of tables predicates indexes).indexes last
-      → IsInside (with_rows_at table rows tables) predicates (renewed_entries indexes last)
+      → IsInside (with_rows_at table rows tables) predicates news
   IsInside-grown size are =
       let old = catalogue_of tables predicates indexes in
-      let new = catalogue_of (with_rows_at table rows tables) predicates (renewed_entries indexes last) in
       let few_tables = inside.few_tables in
       let few_indexes = inside.few_indexes in
       record {
         few_tables = omega (arith, length-with_rows table rows tables);
         few_predicates = inside.few_predicates;
-        few_indexes = omega (arith, length-renewed indexes last);
+        few_indexes = omega (arith, length-new);
         few_rows = few-with_rows table rows tables join.named.table (stored-at tables table join.named join.has_table) join.few inside.few_rows;
         low_scores = inside.low_scores;
         tables_differ = subst NamesDiffer (sym (keys-with_rows table rows tables)) inside.tables_differ;
         predicates_differ = inside.predicates_differ;
-        indexes_differ = subst NamesDiffer (sym (keys-renewed indexes last)) inside.indexes_differ;
+        indexes_differ = subst NamesDiffer (sym keys-new) inside.indexes_differ;
         predicate_keys = inside.predicate_keys;
-        index_keys = keys-renewed indexes last ∙ inside.index_keys
-            ∙ sym (ap (map (λ (i : RankIndex). i.def.name)) (indexes-renewed indexes last) ∙ names-renewed old.indexes last);
-        scored = scored-renewed old table (length rows) indexes last are inside.scored;
+        index_keys = keys-new ∙ inside.index_keys
+            ∙ sym (ap (map (λ (i : RankIndex). i.def.name)) indexes-new ∙ names-renewed old.indexes last);
+        scored = kept-scored news (subst (AllByRecursion HasScores) (sym are_new)
+            (scored-renewed old table (length rows) (map kept_in indexes) last (subst (λ some. AreGrown old table (length rows) some last) (sym (indexes-kept indexes)) are) (scored-kept indexes inside.scored)));
         ranked = subst (λ (c : CatalogDef). AllByRecursion (IsRanked c) c.indexes) (sym catalogue-grown)
             (ranked-renewed old table rows (all_renewed old.indexes last) join old.indexes last size are inside.ranked);
       }
@@ -269,8 +363,74 @@ set-with_rows place rows [] table at = refl
 set-with_rows zero rows (entry ∷ entries) table at = let same : entry.1 ≡ table = cc in ap (λ (t : Relation). (entry.0, with_rows rows t) ∷ entries) (sym same)
 set-with_rows (suc place) rows (entry ∷ entries) table at = ap (λ rest. entry ∷ rest) (set-with_rows place rows entries table at)
 
-pub set-renewed : (place : ℕ) (ranked : Ranked) (entries : List (List ℕ × StoredIndex)) (stored : StoredIndex) → slice_get (values_of entries) place ≡ Some stored
-    → set_value_at entries place (record stored { ranking = ranked.ranking; scores = ranked.scores }) ≡ renewed_at place (Some ranked) entries
-set-renewed place ranked [] stored at = refl
-set-renewed zero ranked (entry ∷ entries) stored at = let same : entry.1 ≡ stored = cc in ap (λ (i : StoredIndex). (entry.0, record i { ranking = ranked.ranking; scores = ranked.scores }) ∷ entries) (sym same)
-set-renewed (suc place) ranked (entry ∷ entries) stored at = ap (λ rest. entry ∷ rest) (set-renewed place ranked entries stored at)
+-- the value at a place is written, and the others stay
+pub OthersStay-set : (place : ℕ) (value : StoredIndex) (entries : List (List ℕ × StoredIndex)) → OthersStay place entries (set_value_at entries place value)
+OthersStay-set place value [] other differ = refl
+OthersStay-set zero value (entry ∷ entries) zero differ = absurd (differ refl)
+OthersStay-set zero value (entry ∷ entries) (suc other) differ = refl
+OthersStay-set (suc place) value (entry ∷ entries) zero differ = refl
+OthersStay-set (suc place) value (entry ∷ entries) (suc other) differ = OthersStay-set place value entries other (λ same. differ (ap suc same))
+
+pub set-own : (place : ℕ) (value stored : StoredIndex) (entries : List (List ℕ × StoredIndex)) → slice_get (values_of (set_value_at entries place value)) place ≡ Some stored → value ≡ stored
+set-own place value stored [] at = cc
+set-own zero value stored (entry ∷ entries) at = cc
+set-own (suc place) value stored (entry ∷ entries) at = set-own place value stored entries at
+
+-- what is kept of the index at a place stays, or has new rows
+pub set-kept : (place : ℕ) (value stored : StoredIndex) (entries : List (List ℕ × StoredIndex)) → slice_get (values_of entries) place ≡ Some stored
+    → value.def ≡ stored.def → value.ranking.items ≡ stored.ranking.items → value.scores.items ≡ stored.scores.items → map kept_in (set_value_at entries place value) ≡ map kept_in entries
+set-kept place value stored [] at def ranking scores = refl
+set-kept zero value stored (entry ∷ entries) at def ranking scores =
+    let same : entry.1 ≡ stored = cc in
+    ap (λ (first : KeptIndex). first ∷ map kept_in entries)
+    ((λ i. record { name = entry.0; def = def i; ranking = ranking i; scores = scores i }) ∙ ap (λ (s : StoredIndex). kept_in (entry.0, s)) (sym same))
+set-kept (suc place) value stored (entry ∷ entries) at def ranking scores = ap (λ rest. kept_in entry ∷ rest) (set-kept place value stored entries at def ranking scores)
+
+pub set-renewed : (place : ℕ) (ranked : Ranked) (value stored : StoredIndex) (entries : List (List ℕ × StoredIndex)) → slice_get (values_of entries) place ≡ Some stored
+    → value.def ≡ stored.def → value.ranking.items ≡ stable (λ row. row.score) (stored.ranking.items ++ ranked.ranking.items) → value.scores.items ≡ stored.scores.items ++ ranked.scores.items
+    → map kept_in (set_value_at entries place value) ≡ renewed_at place (Some ranked) (map kept_in entries)
+set-renewed place ranked value stored [] at def ranking scores = refl
+set-renewed zero ranked value stored (entry ∷ entries) at def ranking scores =
+    let same : entry.1 ≡ stored = cc in
+    ap (λ (first : KeptIndex). first ∷ map kept_in entries)
+    ((λ i. record { name = entry.0; def = def i; ranking = ranking i; scores = scores i }) ∙ ap (λ (s : StoredIndex). renewed_kept (Some ranked) (kept_in (entry.0, s))) (sym same))
+set-renewed (suc place) ranked value stored (entry ∷ entries) at def ranking scores = ap (λ rest. kept_in entry ∷ rest) (set-renewed place ranked value stored entries at def ranking scores)
+
+-- a place of the map is one of what is kept
+pub kept-at : (place : ℕ) (stored : StoredIndex) (entries : List (List ℕ × StoredIndex)) → slice_get (values_of entries) place ≡ Some stored
+    → (name : List ℕ) × (slice_get (map kept_in entries) place ≡ Some (kept_in (name, stored)))
+kept-at place stored [] at = cc
+kept-at zero stored (entry ∷ entries) at = let same : entry.1 ≡ stored = cc in (entry.0, ap (λ (s : StoredIndex). Some (kept_in (entry.0, s))) same)
+kept-at (suc place) stored (entry ∷ entries) at = kept-at place stored entries at
+
+-- the last of a list, and those in front of it
+pub last-at : {X : Type 0} (xs : List X) (x : X) → slice_get (xs ++ x ∷ []) (length xs) ≡ Some x
+last-at [] x = refl
+last-at (first ∷ xs) x = last-at xs x
+
+pub front-at : {X : Type 0} (xs ys : List X) (i : ℕ) (x : X) → slice_get xs i ≡ Some x → slice_get (xs ++ ys) i ≡ Some x
+front-at [] ys i x at = cc
+front-at (first ∷ xs) ys zero x at = at
+front-at (first ∷ xs) ys (suc i) x at = front-at xs ys i x at
+
+-- the last index that takes rows, and those in front of it
+module _ (entries : List (List ℕ × StoredIndex)) (left : List (Option Ranked)) (last : Option Ranked) where
+  pub HasRoom-last : (ranked : Ranked) (stored : StoredIndex) → HaveRoom entries (left ++ last ∷ []) → last ≡ Some ranked → slice_get (values_of entries) (length left) ≡ Some stored → HasRoom ranked stored
+  HasRoom-last ranked stored room is at = room (length left) ranked stored (last-at left last ∙ ap (λ one. Some one) is) at
+
+  pub AreOrdered-last : (ranked : Ranked) (stored : StoredIndex) → AllOrdered (map kept_in entries) (left ++ last ∷ []) → last ≡ Some ranked → slice_get (values_of entries) (length left) ≡ Some stored
+      → AreOrdered ranked stored.ranking.items
+  AreOrdered-last ranked stored ordered is at =
+      let kept = kept-at (length left) stored entries at in
+      ordered (length left) ranked (kept_in (kept.0, stored)) (last-at left last ∙ ap (λ one. Some one) is) kept.1
+
+  pub HaveRoom-front : (news : List (List ℕ × StoredIndex)) → OthersStay (length left) entries news → HaveRoom entries (left ++ last ∷ []) → HaveRoom news left
+  HaveRoom-front news others room place ranked stored at here =
+      let before = slice_get_within left place (Some ranked) at in
+      room place ranked stored (front-at left (last ∷ []) place (Some ranked) at) (sym (others place (λ same. absurd (omega arith))) ∙ here)
+
+  pub AllOrdered-front : (news : List (List ℕ × StoredIndex)) (one : Option Ranked) → map kept_in news ≡ renewed_at (length left) one (map kept_in entries) → AllOrdered (map kept_in entries) (left ++ last ∷ []) → AllOrdered (map kept_in news) left
+  AllOrdered-front news one is ordered place ranked index at here =
+      let before = slice_get_within left place (Some ranked) at in
+      ordered place ranked index (front-at left (last ∷ []) place (Some ranked) at)
+      (sym (ap (λ (kept : List KeptIndex). slice_get kept place) is ∙ renewed_at-before (length left) one (map kept_in entries) place before) ∙ here)

@@ -11,6 +11,7 @@ pub mod InTurnFacts
 mod JoinRowsFacts
 pub mod JoinedFacts
 mod MakeFacts
+mod MergeFacts
 mod MoreFacts
 mod NameFacts
 mod NewRowFacts

@@ -10,9 +10,9 @@ use Rattle.rs_expr.specs.Predicates.{PredicateDef}
 use Rattle.rs_expr.specs.Scores.{as_score, is_score}
 use Rattle.rs_expr.specs.Scoring.{Answering}
 use Rattle.rs_expr.specs.InOrder.{Inquiry}
-use Rattle.rs_rank.specs.Stable.{put_all, put_behind, stable}
+use Rattle.rs_rank.specs.Stable.{put_all, stable}
 use Rattle.rs_rank.specs.declared.scored_row.ScoredRow.{ScoredRow}
-use Rattle.rs_rank.proofs.StableFacts.{AllByRecursion-put_all, Falls, Falls-stable, Falls-unique, length-stable, of_score-stable}
+use Rattle.rs_rank.proofs.StableFacts.{AllByRecursion-put_all, Falls, length-stable}
 use Rattle.rs_catalog.specs.Growing.{in_turn, scoring_new, scorings_new}
 use Rattle.rs_catalog.specs.Indexes.{EntriesInOrder, EntryPrecedes, IsIndexEntry, IsRanking, RowsDiffer, args_in, score_in}
 use Rattle.rs_catalog.specs.Inside.{AreScores}
@@ -20,6 +20,7 @@ use Rattle.rs_catalog.specs.declared.growth.GrowFault.{GrowFault}
 use Rattle.rs_catalog.specs.declared.growth.GrowFault.TheVariants.{BadScore}
 use Rattle.rs_catalog.specs.declared.index.BoundArg.{BoundArg}
 use Rattle.rs_catalog.proofs.InTurnFacts.{in_turn-err, in_turn-ok}
+use Rattle.rs_catalog.proofs.MergeFacts.{stable-behind, stable-falls}
 use Rattle.rs_catalog.proofs.RankingFacts.{Numbered, put_all-ordered, put_all-scored, score, score-EntryPrecedes, score_of-score}
 
 -- new rows with scores up to a greatest one; the first one has this number
@@ -80,15 +81,10 @@ Falls-ordered [] ordered = tt
 Falls-ordered (first ∷ rest) ordered = (each-weaker (EntryPrecedes first) (λ e. e.score ≤ first.score) (score-EntryPrecedes first) rest ordered.0, Falls-ordered rest ordered.1)
 
 pub stable-ordered : (entries : List ScoredRow) → EntriesInOrder entries → stable score entries ≡ entries
-stable-ordered entries ordered = Falls-unique score (stable score entries) entries (Falls-stable score entries) (Falls-ordered entries ordered) (λ row. of_score-stable score row.score entries)
-
--- rows are put in, and others behind them
-pub put_all-append : (first more ordered : List ScoredRow) → put_all score ordered (first ++ more) ≡ put_all score (put_all score ordered first) more
-put_all-append [] more ordered = refl
-put_all-append (entry ∷ first) more ordered = put_all-append first more (put_behind score entry ordered)
+stable-ordered entries ordered = stable-falls score entries (Falls-ordered entries ordered)
 
 stable-more : (ranking entries : List ScoredRow) → EntriesInOrder ranking → stable score (ranking ++ entries) ≡ put_all score ranking entries
-stable-more ranking entries ordered = put_all-append ranking entries [] ∙ ap (λ all. put_all score all entries) (stable-ordered ranking ordered)
+stable-more ranking entries ordered = stable-behind score ranking entries (stable-ordered ranking ordered)
 
 module _ (rows max : ℕ) (ranking entries : List ScoredRow) (more : List (List Value)) (is : IsRanking rows max ranking) (new : AreNew max (rows + 1) more entries) where
   before : AllByRecursion (λ e. e.row < rows + 1) ranking

@@ -1,4 +1,4 @@
-ghost use Rattle.std.specs.Prelude.{◌≡◌, ℕ, ◌<◌, ◌≤◌, ◌-◌, ◌∷◌, [], ◌+◌, ◌++◌, List as Seq, IfOk, Ok, false, true, OnErr, OnOk, length, slice_get, Some, IfSome, option_map};
+ghost use Rattle.std.specs.Prelude.{◌≡◌, ℕ, ◌<◌, ◌≤◌, ◌-◌, ◌∷◌, [], ◌+◌, ◌++◌, List as Seq, IfOk, Ok, false, true, OnErr, OnOk, length, slice_get, Some, IfSome, map, option_map};
 ghost use Rattle.std.specs.List.{AllByRecursion};
 ghost use Rattle.indexmap.specs.IndexMap.{index_map_len, keys, values};
 ghost use Rattle.rs_table.specs.Relation.{Relation, most_rows, row_fits};
@@ -6,7 +6,9 @@ ghost use Rattle.rs_catalog.specs.After.{entry_after};
 ghost use Rattle.rs_catalog.specs.Catalog.{RankIndex as Index, empty, greatest_max, has_name, most_of, names_of, place_of_name, number_named, room_for, room_in, with_predicate, with_table};
 ghost use Rattle.rs_expr.specs.InOrder.{Inquires};
 ghost use Rattle.rs_catalog.specs.Growing.{CanJoin, GrowsBy, growing, growing_index};
-ghost use Rattle.rs_catalog.specs.Grown.{AreGrown, IsGrown, as_renewed, as_renewed_or_same, renewed_at, renewed_entries, with_rows_at};
+ghost use Rattle.rs_catalog.specs.Grown.{AllOrdered, AreGrown, AreOrdered, HasRoom, HaveRoom, IsGrown, OthersStay, all_renewed_kept, as_renewed, as_renewed_or_same, kept_in, renewed_at, with_rows_at};
+ghost use Rattle.rs_catalog.specs.declared.catalog.RankIndex.{RankIndex as Stored};
+ghost use Rattle.std.specs.Map.{values_of};
 ghost use Rattle.rs_catalog.specs.Indexes.{IsIndexEntry, IsIndex, IsRanking, index_of, making, predicate_for, ranking_at, rows_for, score_in};
 ghost use Rattle.rs_catalog.specs.Making.{MakesIndex};
 ghost use Rattle.rs_catalog.specs.Snapshot.{sizes_in};
@@ -18,6 +20,7 @@ use crate::grow::grow_index;
 use crate::growth::GrowFault;
 use crate::index::{BoundArg, IndexDef, IndexFault};
 use crate::make::rank_rows;
+use crate::merge::merge_rows;
 use crate::ranked::Ranked;
 use crate::room::{RoomFault, What};
 use indexmap::IndexMap;
@@ -201,12 +204,13 @@ impl Catalog {
         ensures { GrowsBy table rows.items self.old self.new result (S.state scorer.old) (S.state scorer.new) }
     {
         let grown = self.grow_indexes(alloc, table, rows.as_slice(), scorer)?;
+        make_room(&mut self.indexes, grown.as_slice())?;
         put_rows(&mut self.tables, table as usize, rows)?;
         renew(&mut self.indexes, grown);
         Ok(())
     }
 
-    /// What becomes of each index as rows join a table, in the order of making.
+    /// The rows with their scores that each index takes as rows join a table, in the order of making.
     fn grow_indexes<S: Scorer>(
         &self,
         alloc: Global,
@@ -228,7 +232,7 @@ impl Catalog {
         Ok(grown)
     }
 
-    /// What becomes of the index of this number as rows join a table: nothing of one of another table.
+    /// The rows with their scores that the index of this number takes as rows join a table: none where it is of another table.
     fn grow_at<S: Scorer>(
         &self,
         alloc: Global,
@@ -418,24 +422,64 @@ fn put_rows(
     tables[place].add_rows(rows)
 }
 
-/// Puts what became of indexes in their places.
+/// Makes room in each index for the rows that it takes. The indexes stay as they were.
+fn make_room(
+    indexes: &mut IndexMap<Text, RankIndex>,
+    grown: &[Option<Ranked>],
+) -> Result<(), Memory>
+    requires { length grown.now ≤ index_map_len indexes.old }
+    ensures same { map kept_in indexes.new.entries ≡ map kept_in indexes.old.entries }
+    ensures room { OnOk result (HaveRoom indexes.new.entries grown.now) }
+{
+    for place in 0..grown.len() {
+        if let Some(ranked) = &grown[place] {
+            make_room_at(indexes, place, ranked)?;
+        }
+    }
+    Ok(())
+}
+
+/// Makes room for rows in the index at a place. The indexes stay as they were.
+fn make_room_at(
+    indexes: &mut IndexMap<Text, RankIndex>,
+    place: usize,
+    ranked: &Ranked,
+) -> Result<(), Memory>
+    requires { place < index_map_len indexes.old }
+    ensures same { map kept_in indexes.new.entries ≡ map kept_in indexes.old.entries }
+    ensures others { OthersStay place indexes.old.entries indexes.new.entries }
+    ensures room { OnOk result ((stored : Stored) → slice_get (values_of indexes.new.entries) place ≡ Some stored → HasRoom ranked.now stored) }
+{
+    let index = &mut indexes[place];
+    index.ranking.reserve(ranked.ranking.len())?;
+    index.scores.reserve(ranked.scores.len())?;
+    Ok(())
+}
+
+/// Puts the rows that indexes take at their places in them. There is to be room for them, and it takes no memory.
 fn renew(indexes: &mut IndexMap<Text, RankIndex>, mut grown: Vec<Option<Ranked>>)
-    requires { length grown.items ≤ index_map_len indexes.old }
-    ensures { indexes.new.entries ≡ renewed_entries indexes.old.entries grown.items }
+    requires few { length grown.items ≤ index_map_len indexes.old }
+    requires room { HaveRoom indexes.old.entries grown.items }
+    requires ordered { AllOrdered (map kept_in indexes.old.entries) grown.items }
+    ensures { map kept_in indexes.new.entries ≡ all_renewed_kept (map kept_in indexes.old.entries) grown.items }
 {
     while let Some(last) = grown.pop() {
-        renew_at(indexes, grown.len(), last);
+        if let Some(ranked) = last {
+            renew_at(indexes, grown.len(), &ranked);
+        }
     }
 }
 
-/// Puts what became of the index at a place there; one that stays has nothing.
-fn renew_at(indexes: &mut IndexMap<Text, RankIndex>, place: usize, grown: Option<Ranked>)
-    requires { place < index_map_len indexes.old }
-    ensures { indexes.new.entries ≡ renewed_at place grown indexes.old.entries }
+/// Puts rows at their places in the index at a place, and their scores last. There is to be room for them.
+fn renew_at(indexes: &mut IndexMap<Text, RankIndex>, place: usize, ranked: &Ranked)
+    requires few { place < index_map_len indexes.old }
+    requires room { (stored : Stored) → slice_get (values_of indexes.old.entries) place ≡ Some stored → HasRoom ranked.now stored }
+    requires ordered { (stored : Stored) → slice_get (values_of indexes.old.entries) place ≡ Some stored → AreOrdered ranked.now stored.ranking.items }
+    ensures renewed { map kept_in indexes.new.entries ≡ renewed_at place (Some ranked.now) (map kept_in indexes.old.entries) }
+    ensures others { OthersStay place indexes.old.entries indexes.new.entries }
 {
-    if let Some(ranked) = grown {
-        let index = &mut indexes[place];
-        index.ranking = ranked.ranking;
-        index.scores = ranked.scores;
-    }
+    let index = &mut indexes[place];
+    merge_rows(&mut index.ranking, &ranked.ranking);
+    // There is room, so this doesn't fail.
+    let _ = index.scores.extend_from_slice(&ranked.scores);
 }

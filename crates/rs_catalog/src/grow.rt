@@ -1,6 +1,6 @@
 //! What becomes of a rank index as rows join its table.
 
-ghost use Rattle.std.specs.Prelude.{◌≡◌, ◌+◌, ◌<◌, ◌≤◌, ◌^◌, ◌++◌, true, IfOk, List as Seq, length, map, if◌then◌else◌, Ok, Err};
+ghost use Rattle.std.specs.Prelude.{ℕ, ◌≡◌, ◌+◌, ◌<◌, ◌≤◌, ◌^◌, ◌++◌, true, IfOk, List as Seq, length, if◌then◌else◌, Ok, Err};
 ghost use Rattle.std.specs.List.{AllByRecursion};
 ghost use Rattle.rs_value.specs.Value.{all_fit, fits};
 ghost use Rattle.rs_value.specs.declared.kind.Kind.{Kind as ValueKind};
@@ -17,15 +17,14 @@ ghost use Rattle.rs_catalog.specs.Inside.{AreScores};
 use crate::catalog::RankIndex;
 use crate::growth::GrowFault;
 use crate::index::BoundArg;
-use crate::make::scores_of;
 use crate::ranked::Ranked;
 use rs_expr::{Predicate, Scorer, ScorerFault, score_within};
-use rs_rank::{ScoredRow, sort_stably};
+use rs_rank::ScoredRow;
 use rs_value::{List, Memory, Value};
 use std::alloc::Global;
 
-/// What becomes of an index as rows join its table: one call a row, in the order of the rows, up to the first fault, and then
-/// all rows by score.
+/// The new rows that an index takes as they join its table: one call a row, in the order of the rows, up to the first fault, and
+/// then the new rows by score.
 pub(crate) fn grow_index<S: Scorer>(
     alloc: Global,
     number: u8,
@@ -37,17 +36,19 @@ pub(crate) fn grow_index<S: Scorer>(
     requires fits { (columns : Seq Column) × (AllByRecursion (λ row. row_fits columns row ≡ true) rows.now × (args_fit columns predicate.now.params index.now.def.args ≡ true)) }
     requires few { length index.now.scores.items + 1 + length rows.now < 2 ^ 32 }
     requires ranking { IsRanking (length index.now.scores.items) predicate.now.max index.now.ranking.items }
-    requires scores { AreScores index.now.ranking.items index.now.scores.items }
     ensures grows { Inquires GrowFault.Memory (finished (λ entries. with_entries entries (index_in index.now))
         (scorings_new (S.state scorer.old).answer number predicate.now index.now.def.args (length index.now.scores.items + 1) rows.now))
         (as_renewed_index (index_in index.now) result) (S.state scorer.old) (S.state scorer.new) }
-    ensures ranking { IfOk result (λ ranked. IsRanking (length index.now.scores.items + length rows.now) predicate.now.max ranked.ranking.items) }
-    ensures scores { IfOk result (λ ranked. AreScores ranked.ranking.items ranked.scores.items) }
+    ensures ordered { IfOk result (λ ranked. stable (λ row. row.score) ranked.ranking.items ≡ ranked.ranking.items) }
+    ensures ranking { IfOk result (λ ranked. IsRanking (length index.now.scores.items + length rows.now) predicate.now.max
+        (stable (λ row. row.score) (index.now.ranking.items ++ ranked.ranking.items))) }
+    ensures scores { IfOk result (λ ranked. (scores : Seq ℕ) → AreScores index.now.ranking.items scores
+        → AreScores (stable (λ row. row.score) (index.now.ranking.items ++ ranked.ranking.items)) (scores ++ ranked.scores.items)) }
 {
     let first = index.scores.len() as u32 + 1;
     let args = index.def.args.items();
     let entries = score_new_rows(alloc, number, predicate, args, first, rows, scorer)?;
-    Ok(rank_more(alloc, &index.ranking, &index.scores, &entries)?)
+    Ok(Ranked::of(alloc, entries)?)
 }
 
 /// The new rows of a table with the scores that they get at an index, in their order; the first one has this number. The
@@ -136,27 +137,4 @@ fn argument_in(row: &[Value], arg: &BoundArg) -> Result<Value, Memory>
         BoundArg::Int(number) => Ok(Value::Int(*number)),
         BoundArg::Text(text) => Ok(Value::Text(text.copy()?)),
     }
-}
-
-/// A ranking and its scores by row, with new rows behind them.
-fn rank_more(
-    alloc: Global,
-    ranking: &[ScoredRow],
-    scores: &[u32],
-    entries: &[ScoredRow],
-) -> Result<Ranked, Memory>
-    ensures ranking { IfOk result (λ ranked. ranked.ranking.items ≡ stable (λ entry. entry.score) (ranking.now ++ entries.now)) }
-    ensures scores { IfOk result (λ ranked. ranked.scores.items ≡ scores.now ++ map (λ entry. entry.score) entries.now) }
-{
-    let mut ordered = Vec::new(alloc);
-    ordered.extend_from_slice(ranking)?;
-    ordered.extend_from_slice(entries)?;
-    sort_stably(&mut ordered)?;
-    let mut by_row = Vec::new(alloc);
-    by_row.extend_from_slice(scores)?;
-    by_row.extend_from_slice(&scores_of(alloc, entries)?)?;
-    Ok(Ranked {
-        ranking: ordered,
-        scores: by_row,
-    })
 }

@@ -12,6 +12,7 @@ mod held;
 mod index;
 mod laws;
 mod make;
+mod merge;
 mod ranked;
 mod room;
 mod snapshot;

@@ -1,4 +1,4 @@
-ghost use Rattle.std.specs.Prelude.{◌≡◌, ◌≤◌, true, IfOk, List, length, map, if◌then◌else◌, Ok, Err};
+ghost use Rattle.std.specs.Prelude.{◌≡◌, ◌≤◌, true, IfOk, List, length, if◌then◌else◌, Ok, Err};
 ghost use Rattle.rs_value.specs.Value.{all_fit, fits};
 ghost use Rattle.rs_value.specs.declared.kind.Kind.{Kind as ValueKind};
 ghost use Rattle.rs_expr.specs.InOrder.{Inquires};
@@ -9,7 +9,7 @@ ghost use Rattle.rs_catalog.specs.Making.{as_ranked, as_ranking, score_for, scor
 use crate::index::{BoundArg, IndexFault};
 use crate::ranked::Ranked;
 use rs_expr::{Predicate, Scorer, ScorerFault, score_within};
-use rs_rank::{ScoredRow, sort_stably};
+use rs_rank::ScoredRow;
 use rs_table::Table;
 use rs_value::{Memory, Value};
 use std::alloc::Global;
@@ -29,20 +29,8 @@ pub(crate) fn rank_rows<S: Scorer>(
     ensures ranking { IfOk result (λ ranked. IsRanking (length table.now.rows) predicate.now.max ranked.ranking.items) }
     ensures scores { IfOk result (λ ranked. AreScores ranked.ranking.items ranked.scores.items) }
 {
-    let mut entries = score_rows(alloc, table, predicate, args, scorer)?;
-    let scores = scores_of(alloc, entries.as_slice())?;
-    sort_stably(&mut entries)?;
-    Ok(Ranked {
-        ranking: entries,
-        scores,
-    })
-}
-
-/// The scores of entries, in their order.
-pub(crate) fn scores_of(alloc: Global, entries: &[ScoredRow]) -> Result<Vec<u32>, Memory>
-    ensures { IfOk result (λ scores. scores.items ≡ map (λ entry. entry.score) entries.now) }
-{
-    Ok(entries.iter().map(|entry| entry.score).collect(alloc)?)
+    let entries = score_rows(alloc, table, predicate, args, scorer)?;
+    Ok(Ranked::of(alloc, entries)?)
 }
 
 /// The rows of a table in their order, each with its score.

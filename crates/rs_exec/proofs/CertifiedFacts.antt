@@ -22,17 +22,18 @@ use Rattle.rs_plan.specs.Calls.{calls_of_plan, questions, questions_of_ask}
 use Rattle.rs_plan.specs.Lists.{World, key_under, list_of, row_under, sources, weights_in, worths}
 use Rattle.rs_plan.specs.Trees.{Distinct, JoinOperator, Rank, RankScan, SeqScan, SetOperator, PlanTree}
 use Rattle.rs_exec.specs.Asking.{exec_faults, world_of}
-use Rattle.rs_exec.specs.Certifying.{AnswerAlike, AnswersFit, HasNoSetOperator}
+use Rattle.rs_exec.specs.Certifying.{AnswerAlike, AnswersFit}
 use Rattle.rs_exec.specs.Cursors.{answer_for, answers_of, next_answer}
 use Rattle.rs_exec.specs.declared.fault.ExecFault.{ExecFault}
 use Rattle.rs_exec.specs.Indexes.{PlanIndexesHold}
+use Rattle.rs_exec.specs.Asked.{HasBlock}
 use Rattle.rs_exec.specs.Parts.{IsPartOf}
 use Rattle.rs_exec.proofs.BlockFacts.{first-block, sizes-are}
 use Rattle.rs_exec.proofs.CursorFacts.{bounded-world}
 use Rattle.rs_exec.proofs.PlacesFacts.{plan-part}
 use Rattle.rs_exec.proofs.IndexListFacts.{index-list}
 use Rattle.rs_exec.proofs.ListFacts.{IsView-itself, list-length}
-use Rattle.rs_exec.proofs.OperatorFacts.{child_on, number_on, own_of, puts-are, puts_of, questions-are}
+use Rattle.rs_exec.proofs.OperatorFacts.{IsHeldPart, child-held, child_on, number_on, own_of, puts-are, puts_of, questions-are}
 use Rattle.rs_exec.proofs.PartFacts.{grows}
 use Rattle.rs_exec.proofs.TableFacts.{sum-none}
 use Rattle.rs_order.specs.Schedule.{JoinSide, Right, asked}
@@ -52,11 +53,25 @@ use Rattle.rs_outputs.specs.Rows.{OutputRow, firsts}
 use Rattle.rs_query.specs.Answers.{base_of}
 use Rattle.rs_plan.specs.Counts.{asked_of}
 use Rattle.rs_exec.specs.OutputValues.{output_row, outputs_in}
-use Rattle.rs_exec.proofs.CertifyDistinctFacts.{alone-numbered, base-unscored, distinct-shared, same-ids}
+use Rattle.rs_exec.proofs.CertifyDistinctFacts.{alone-numbered, distinct-shared}
+use Rattle.rs_exec.proofs.CertifySetFacts.{set-shared}
 use Rattle.rs_exec.proofs.DistinctListFacts.{distinct-outputs, output_key}
 use Rattle.rs_exec.proofs.DistinctStepFacts.{distinct-asks, distinct-child_asks, outputs-climb}
+use Rattle.rs_exec.proofs.SetStepFacts.{SetFacts, set-facts}
+use Rattle.rs_exec.proofs.SideFacts.{on-both}
+use Rattle.rs_exec.proofs.UnscoredFacts.{base-unscored, query-unscored, same-ids}
+use Rattle.rs_exec.specs.SetNodes.{operator_of, sides_for}
+use Rattle.rs_exec.specs.Sides.{of_side}
+use Rattle.rs_query.specs.Answers.{rows_of}
+use Rattle.rs_query.specs.declared.query.Query.TheVariants.{One, Set}
+use Rattle.rs_setop.specs.Sides.{schedule_of as set_schedule_of}
 use Rattle.rs_plan.specs.Trees.{terms}
 use Rattle.rs_plan.specs.Lists.{sizes_in}
+
+-- the rows of outputs are those that they were made of
+rows-in : (w : World) (all : List RankRow) → map (λ (row : OutputRow). row.row) (map (output_row w) all) ≡ all
+rows-in w [] = refl
+rows-in w (row ∷ rest) = ap (λ (more : List RankRow). row ∷ more) (rows-in w rest)
 
 module _ (catalogue : CatalogDef) (answer other : Answering) (query : Query) where
   abbrev w : World
@@ -199,10 +214,6 @@ module _ (catalogue : CatalogDef) (answer other : Answering) (query : Query) whe
           ∙ list-length w number child ∙ ap (λ (all : List Ids). length all) same ∙ sym (list-length v number child)
           ∙ sym (length-map (list_of v number child) (output_row v))
 
-      rows-in : (all : List RankRow) → map (λ (row : OutputRow). row.row) (map (output_row w) all) ≡ all
-      rows-in [] = refl
-      rows-in (row ∷ rest) = ap (λ (more : List RankRow). row ∷ more) (rows-in rest)
-
       -- an operator that drops duplicates, of rows that are certified
       pub distinct-certifies : Certifies catalogue answer other query number (Distinct child)
       distinct-certifies zero alike = record { rows = refl; asked = refl }
@@ -220,11 +231,11 @@ module _ (catalogue : CatalogDef) (answer other : Answering) (query : Query) whe
           take-map (output_row w) i (list_of w number child) ∙ ap (map (output_row w)) (share Left i (omega arith)).rows ∙ sym (take-map (output_row v) i (list_of v number child))) in
           record {
             rows =
-                ap (take (suc n)) (sym (rows-in (list_of w number (Distinct child))) ∙ ap (map (λ (row : OutputRow). row.row)) (distinct-outputs w number child are.formed (are.bounded number are.has) part are.weights))
+                ap (take (suc n)) (sym (rows-in w (list_of w number (Distinct child))) ∙ ap (map (λ (row : OutputRow). row.row)) (distinct-outputs w number child are.formed (are.bounded number are.has) part are.weights))
                 ∙ take-map (λ (row : OutputRow). row.row) (suc n) (firsts rows)
                 ∙ ap (map (λ (row : OutputRow). row.row)) both.first
                 ∙ sym (take-map (λ (row : OutputRow). row.row) (suc n) (firsts others))
-                ∙ sym (ap (take (suc n)) (sym (rows-in (list_of v number (Distinct child))) ∙ ap (map (λ (row : OutputRow). row.row)) (distinct-outputs v number child are.formed (are.other_bounded number are.has) part are.weights)));
+                ∙ sym (ap (take (suc n)) (sym (rows-in v (list_of v number (Distinct child))) ∙ ap (map (λ (row : OutputRow). row.row)) (distinct-outputs v number child are.formed (are.other_bounded number are.has) part are.weights)));
             asked =
                 ap (flat_map (puts_of w number (Distinct child))) is
                 ∙ puts-shared number (Distinct child) asks (alone-numbered j) input all input-below (λ i. refl)
@@ -232,44 +243,114 @@ module _ (catalogue : CatalogDef) (answer other : Answering) (query : Query) whe
                 ∙ sym (ap (flat_map (puts_of v number (Distinct child))) other_is);
           }
 
-    -- without an evaluated term a row's sum is 0
-    unevaluated : (all : List Ids) → map (row_under w 0) all ≡ map (row_under v 0) all
-    unevaluated [] = refl
-    unevaluated (ids ∷ rest) =
-        ap₂ (λ (row : RankRow) (more : List RankRow). row ∷ more)
-        (ap (λ (sum : ℕ). record { ids = ids; sum = sum }) (sum-none (weights_in w).weight (worths w ids) ∙ sym (sum-none (weights_in v).weight (worths v ids))))
-        (unevaluated rest)
+  -- the worlds of a part of a plan are those of a part with another number
+  with-number : (number next : ℕ) → AreWorlds catalogue answer other query number → HasBlock query next → AreWorlds catalogue answer other query next
+  with-number number next are has = record { formed = are.formed; has = has; bounded = are.bounded; other_bounded = are.other_bounded; weights = are.weights }
 
-    sources-shared : (tree : PlanTree) → HasNoSetOperator tree → sources w number tree ≡ sources v number tree
-    sources-shared (SeqScan entry) is = refl
-    sources-shared (RankScan entry term index) is = refl
-    sources-shared (Rank term child) is = sources-shared child is
-    sources-shared (JoinOperator kind left right) is = refl
-    sources-shared (Distinct child) is =
-        same-ids (base_of answer catalogue number (block_in query number) (sizes_in w number)) (base_of other catalogue number (block_in query number) (sizes_in w number))
-        (base-unscored catalogue answer other number (block_in query number) (sizes_in w number))
-    sources-shared (SetOperator left right) is = absurd is
+  module _ (are : AreWorlds catalogue answer other query 1) (left right : PlanTree) (part : IsPartOf catalogue query 1 (SetOperator left right))
+      (child : (side : JoinSide) → IsChild 1 (SetOperator left right) side) (below : (side : JoinSide) → Certifies catalogue answer other query (of_side 1 2 side) (of_side left right side)) where
+    facts : SetFacts w left right
+    facts = set-facts catalogue answer w.view query 1 left right are.formed are.bounded are.weights part
 
-    -- a scan asks nothing, and rank operators over one certify their rows
-    pub certifies : (tree : PlanTree) → HasNoSetOperator tree → IsPartOf catalogue query number tree → PlanIndexesHold answer catalogue tree → PlanIndexesHold other catalogue tree → Certifies catalogue answer other query number tree
-    certifies (SeqScan entry) is part holds other_holds a alike =
-        record { rows = ap (λ (all : List RankRow). take a (sorted key_cmp (key_under w 0) all)) (unevaluated (sources w number (SeqScan entry))); asked = refl }
-    certifies (RankScan entry term index) is part holds other_holds a alike =
+    other-facts : SetFacts v left right
+    other-facts = set-facts catalogue other v.view query 1 left right are.formed are.other_bounded are.weights part
+
+    outputs-shared : (number : ℕ) (tree : PlanTree) (i : ℕ) → Share catalogue answer other query number tree i → take i (outputs_in w number tree) ≡ take i (outputs_in v number tree)
+    outputs-shared number tree i share =
+        take-map (output_row w) i (list_of w number tree) ∙ ap (map (output_row w)) share.rows ∙ sym (take-map (output_row v) i (list_of v number tree))
+
+    -- a set operator of sides that are certified
+    set-certifies : Certifies catalogue answer other query 1 (SetOperator left right)
+    set-certifies zero alike = record { rows = refl; asked = refl }
+    set-certifies (suc n) alike =
+        let s = sides_for w left in
+        let o = operator_of query in
+        let tree = SetOperator left right in
+        let lefts = outputs_in w 1 left in
+        let rights = outputs_in w 2 right in
+        let others = outputs_in v 1 left in
+        let other_rights = outputs_in v 2 right in
+        let asks = set_schedule_of s o lefts rights (suc n) in
+        let is = facts.asks (suc n) in
+        let other_is = other-facts.asks (suc n) in
+        let numbers = (set-shared s o lefts rights lefts rights facts.sides facts.sides (suc n) (λ side i le. refl)).numbered in
+        let all = subst (λ (made : List SideAsk). AnswerAlike catalogue answer other (flat_map (puts_of w 1 tree) made)) is alike in
+        let share = side-shared 1 tree asks numbers child all below (λ i. refl) in
+        let both = set-shared s o lefts rights others other_rights facts.sides other-facts.sides (suc n)
+        (on-both (λ side. (i : ℕ) → i ≤ asked side asks → take i (of_side lefts rights side) ≡ take i (of_side others other_rights side))
+        (λ i le. outputs-shared 1 left i (share Left i le)) (λ i le. outputs-shared 2 right i (share Right i le))) in
         record {
-          rows = ap (take a) (index-list w number entry term index are.formed part holds (sizes-are catalogue answer query number are.has)
-              ∙ sym (index-list v number entry term index are.formed part other_holds (sizes-are catalogue other query number are.has)));
-          asked = refl;
+          rows =
+              ap (take (suc n)) (sym (rows-in w (list_of w 1 tree)) ∙ ap (map (λ (row : OutputRow). row.row)) facts.list)
+              ∙ both.rows
+              ∙ sym (ap (take (suc n)) (sym (rows-in v (list_of v 1 tree)) ∙ ap (map (λ (row : OutputRow). row.row)) other-facts.list));
+          asked =
+              ap (flat_map (puts_of w 1 tree)) is
+              ∙ puts-shared 1 tree asks numbers child all below (λ i. refl)
+              ∙ ap (flat_map (puts_of v 1 tree)) (both.asks ∙ sym other_is);
         }
-    certifies (Rank term child) is part holds other_holds a alike =
-        rank-certifies catalogue answer other query number are term child part (certifies child is part.0 holds other_holds) (sources-shared child is) a alike
-    certifies (JoinOperator kind left right) is part holds other_holds a alike =
-        join-certifies kind left right part
-        (certifies left is.0 (part-of catalogue query number left part.0) holds.0 other_holds.0)
-        (certifies right is.1 (part-of catalogue query number right part.1) holds.1 other_holds.1)
-        (sources-shared left is.0) (sources-shared right is.1) a alike
-    certifies (Distinct child) is part holds other_holds a alike =
-        distinct-certifies child part (certifies child is (part-of catalogue query number child part.0) holds other_holds) (sources-shared child is) a alike
-    certifies (SetOperator left right) is part holds other_holds a alike = absurd is
+
+  -- what stands from the set operator on has the number of the first block
+  set-number : (q : Query) (number : ℕ) (left right : PlanTree) → IsPartOf catalogue q number (SetOperator left right) → number ≡ 1
+  set-number (One block limit) number left right part = absurd part
+  set-number (Set op l r limit) number left right part = part.0
+
+  -- and it certifies its rows where its sides do
+  set-number-certifies : (number : ℕ) → number ≡ 1 → (left right : PlanTree) → AreWorlds catalogue answer other query number → IsPartOf catalogue query number (SetOperator left right)
+      → IsChild number (SetOperator left right) Left → IsChild number (SetOperator left right) Right → Certifies catalogue answer other query 1 left → Certifies catalogue answer other query 2 right
+      → Certifies catalogue answer other query number (SetOperator left right)
+  set-number-certifies number one left right are part left_child right_child left_below right_below =
+      subst (λ m. Certifies catalogue answer other query m (SetOperator left right)) (sym one)
+      (set-certifies (subst (AreWorlds catalogue answer other query) one are) left right (subst (λ m. IsPartOf catalogue query m (SetOperator left right)) one part)
+      (on-both (IsChild 1 (SetOperator left right)) (record { are = left_child.are; part = left_child.part }) (record { are = right_child.are; part = right_child.part }))
+      (on-both (λ side. Certifies catalogue answer other query (of_side 1 2 side) (of_side left right side)) left_below right_below))
+
+  -- without an evaluated term a row's sum is 0
+  unevaluated : (all : List Ids) → map (row_under w 0) all ≡ map (row_under v 0) all
+  unevaluated [] = refl
+  unevaluated (ids ∷ rest) =
+      ap₂ (λ (row : RankRow) (more : List RankRow). row ∷ more)
+      (ap (λ (sum : ℕ). record { ids = ids; sum = sum }) (sum-none (weights_in w).weight (worths w ids) ∙ sym (sum-none (weights_in v).weight (worths v ids))))
+      (unevaluated rest)
+
+  sources-shared : (number : ℕ) (tree : PlanTree) → sources w number tree ≡ sources v number tree
+  sources-shared number (SeqScan entry) = refl
+  sources-shared number (RankScan entry term index) = refl
+  sources-shared number (Rank term child) = sources-shared number child
+  sources-shared number (JoinOperator kind left right) = refl
+  sources-shared number (Distinct child) =
+      same-ids (base_of answer catalogue number (block_in query number) (sizes_in w number)) (base_of other catalogue number (block_in query number) (sizes_in w number))
+      (base-unscored catalogue answer other number (block_in query number) (sizes_in w number))
+  sources-shared number (SetOperator left right) = same-ids (rows_of answer catalogue query w.view) (rows_of other catalogue query w.view) (query-unscored catalogue answer other query w.view)
+
+  -- a scan asks nothing, and what stands over parts that certify their rows certifies its own
+  pub certifies : (number : ℕ) → AreWorlds catalogue answer other query number → (tree : PlanTree) → IsPartOf catalogue query number tree → PlanIndexesHold answer catalogue tree → PlanIndexesHold other catalogue tree
+      → Certifies catalogue answer other query number tree
+  certifies number are (SeqScan entry) part holds other_holds a alike =
+      record { rows = ap (λ (all : List RankRow). take a (sorted key_cmp (key_under w 0) all)) (unevaluated (sources w number (SeqScan entry))); asked = refl }
+  certifies number are (RankScan entry term index) part holds other_holds a alike =
+      record {
+        rows = ap (take a) (index-list w number entry term index are.formed part holds (sizes-are catalogue answer query number are.has)
+            ∙ sym (index-list v number entry term index are.formed part other_holds (sizes-are catalogue other query number are.has)));
+        asked = refl;
+      }
+  certifies number are (Rank term child) part holds other_holds a alike =
+      rank-certifies catalogue answer other query number are term child part (certifies number are child part.0 holds other_holds) (sources-shared number child) a alike
+  certifies number are (JoinOperator kind left right) part holds other_holds a alike =
+      join-certifies number are kind left right part
+      (certifies number are left (part-of catalogue query number left part.0) holds.0 other_holds.0)
+      (certifies number are right (part-of catalogue query number right part.1) holds.1 other_holds.1)
+      (sources-shared number left) (sources-shared number right) a alike
+  certifies number are (Distinct child) part holds other_holds a alike =
+      distinct-certifies number are child part (certifies number are child (part-of catalogue query number child part.0) holds other_holds) (sources-shared number child) a alike
+  certifies number are (SetOperator left right) part holds other_holds a alike =
+      let held : IsHeldPart catalogue answer query number (SetOperator left right) = record { number_is = are.has; part = part; indexes = holds } in
+      let l = child-held catalogue answer query number (SetOperator left right) Left held in
+      let r = child-held catalogue answer query number (SetOperator left right) Right held in
+      let left_are = with-number number 1 are l.number_is in
+      let right_are = with-number number 2 are r.number_is in
+      set-number-certifies number (set-number query number left right part) left right are part (record { are = left_are; part = l.part }) (record { are = right_are; part = r.part })
+      (certifies 1 left_are left l.part holds.0 other_holds.0) (certifies 2 right_are right r.part holds.1 other_holds.1) a alike
 
 module _ (catalogue : CatalogDef) (answer other : Answering) where
   -- questions that are answered alike end in the same
@@ -298,7 +379,7 @@ module _ (catalogue : CatalogDef) (answer other : Answering) where
       (through-alike asked alike) (outcome-alike asked value alike)
 
 -- a plan
-module _ (catalogue : CatalogDef) (answer other : Answering) (query : Query) (tree : PlanTree) (n : ℕ) (is : HasNoSetOperator tree)
+module _ (catalogue : CatalogDef) (answer other : Answering) (query : Query) (tree : PlanTree) (n : ℕ)
     (fits : AnswersFit catalogue query tree answer) (other_fits : AnswersFit catalogue query tree other) where
   pub are-worlds : AreWorlds catalogue answer other query 1
   are-worlds = record {
@@ -310,7 +391,7 @@ module _ (catalogue : CatalogDef) (answer other : Answering) (query : Query) (tr
   }
 
   shared : (a : ℕ) → AnswerAlike catalogue answer other (questions (world_of catalogue answer query) 1 tree a) → Share catalogue answer other query 1 tree a
-  shared = certifies catalogue answer other query 1 are-worlds tree is (plan-part catalogue query tree fits.plan) fits.indexes other_fits.indexes
+  shared = certifies catalogue answer other query 1 are-worlds tree (plan-part catalogue query tree fits.plan) fits.indexes other_fits.indexes
 
   pub certified-rows : AnswerAlike catalogue answer other (questions (world_of catalogue answer query) 1 tree n)
       → take n (answers_of (world_of catalogue answer query) tree) ≡ take n (answers_of (world_of catalogue other query) tree)

@@ -1,9 +1,9 @@
 -- Of two lists that begin alike, the first rows of each list of output values.
-use Rattle.std.proofs.Common.{◌≡◌, ◌∙◌, ℕ, zero, suc, ◌≤◌, Bool, true, false, not, cond, List, [], ◌∷◌, length, map, take, refl, sym, ap, subst, inl, inr, arith}
+use Rattle.std.proofs.Common.{◌≡◌, ◌∙◌, ℕ, zero, suc, ◌≤◌, Bool, true, false, not, cond, List, [], ◌∷◌, length, take, refl, sym, ap, subst, inl, inr, arith}
 use Rattle.std.proofs.lemmas.Bool.{cases_lt}
 use Rattle.std.proofs.lemmas.List.{take_all}
 use Rattle.std.proofs.lemmas.Option.{slice_get_past}
-use Rattle.std.specs.List.{AllByRecursion, filter}
+use Rattle.std.specs.List.{filter}
 use Rattle.std.specs.Option.{option_map}
 use Rattle.rs_order.specs.Asks.{asks_for, bar_after}
 use Rattle.rs_order.specs.Climbing.{Climbs}
@@ -12,22 +12,13 @@ use Rattle.rs_order.proofs.PartFacts.{bar_after-slice_get, slice_get-shared}
 use Rattle.rs_order.proofs.ReorderFacts.{asks_for-None}
 use Rattle.rs_order.proofs.ScheduleFacts.{asked-from}
 use Rattle.rs_rank.specs.Keys.{key_cmp}
-use Rattle.rs_rank.specs.declared.answer.Answer.{Answer}
-use Rattle.rs_rank.specs.declared.ids.Ids.{Ids}
 use Rattle.rs_rank.specs.declared.key.Key.{Key}
 use Rattle.rs_rank.proofs.OrderFacts.{key_cmp-total}
-use Rattle.rs_expr.specs.Scoring.{Answering}
-use Rattle.rs_catalog.specs.Catalog.{CatalogDef}
 use Rattle.rs_outputs.specs.Rows.{OutputRow, firsts, values_of}
 use Rattle.rs_outputs.specs.Seen.{has_list, same_values}
 use Rattle.rs_outputs.proofs.DistinctFacts.{firsts-more, given-asks}
-use Rattle.rs_query.specs.Answers.{answer_row, base_of, distinct_if, firsts as answer_firsts}
-use Rattle.rs_query.specs.Combinations.{combinations}
-use Rattle.rs_query.specs.Tables.{all_entries}
-use Rattle.rs_query.specs.declared.block.Block.{Block}
 use Rattle.rs_ripple.specs.Stands.{BeginsWith}
 use Rattle.rs_exec.proofs.CertifyJoinFacts.{IsNumbered}
-use Rattle.rs_exec.proofs.DistinctListFacts.{map-filter}
 use Rattle.rs_exec.proofs.DistinctStepFacts.{reached}
 
 -- what passes of the first items begins what passes of all
@@ -106,43 +97,3 @@ no-rights first (suc count) = no-rights (suc first) count
 pub alone-numbered : (count : ℕ) (side : JoinSide) → IsNumbered (asks_from Left 1 count) side
 alone-numbered count Left = left-numbers 1 count ∙ ap (numbers_from 1) (sym (asked-from Left 1 count))
 alone-numbered count Right = let none = no-rights 1 count in none.0 ∙ ap (numbers_from 1) (sym none.1)
-
--- which rows a query has depends on no score
-abbrev unscored : Answer → Answer
-unscored row = record row { score = 0 }
-
-unscored-firsts : (rows : List Answer) → map unscored (answer_firsts rows) ≡ answer_firsts (map unscored rows)
-unscored-firsts [] = refl
-unscored-firsts (row ∷ rows) =
-    ap (λ (rest : List Answer). unscored row ∷ rest)
-    (map-filter unscored (λ (other : Answer). not (same_values row.values other.values)) (λ (other : Answer). not (same_values row.values other.values)) (answer_firsts rows) (each (answer_firsts rows))
-    ∙ ap (λ (rest : List Answer). filter (λ (other : Answer). not (same_values row.values other.values)) rest) (unscored-firsts rows))
-  where
-    each : (others : List Answer) → AllByRecursion (λ (other : Answer). not (same_values row.values other.values) ≡ not (same_values row.values (unscored other).values)) others
-    each [] = tt
-    each (other ∷ others) = (refl, each others)
-
-module _ (catalogue : CatalogDef) (answer other : Answering) (number : ℕ) (block : Block) (sizes : List ℕ) where
-  rows-unscored : (all : List (List ℕ)) → map unscored (map (answer_row answer catalogue block number) all) ≡ map unscored (map (answer_row other catalogue block number) all)
-  rows-unscored [] = refl
-  rows-unscored (rows ∷ rest) = ap (λ (more : List Answer). unscored (answer_row answer catalogue block number rows) ∷ more) (rows-unscored rest)
-
-  pub base-unscored : map unscored (base_of answer catalogue number block sizes) ≡ map unscored (base_of other catalogue number block sizes)
-  base-unscored = go block.distinct where
-    all : List (List ℕ)
-    all = combinations catalogue block sizes (all_entries block)
-
-    go : (b : Bool) → map unscored (distinct_if b (map (answer_row answer catalogue block number) (combinations catalogue block sizes (all_entries block))))
-        ≡ map unscored (distinct_if b (map (answer_row other catalogue block number) (combinations catalogue block sizes (all_entries block))))
-    go false = rows-unscored (combinations catalogue block sizes (all_entries block))
-    go true =
-        unscored-firsts (map (answer_row answer catalogue block number) (combinations catalogue block sizes (all_entries block)))
-        ∙ ap answer_firsts (rows-unscored (combinations catalogue block sizes (all_entries block)))
-        ∙ sym (unscored-firsts (map (answer_row other catalogue block number) (combinations catalogue block sizes (all_entries block))))
-
-ids-unscored : (rows : List Answer) → map (λ (row : Answer). row.ids) (map unscored rows) ≡ map (λ (row : Answer). row.ids) rows
-ids-unscored [] = refl
-ids-unscored (row ∷ rows) = ap (λ (rest : List Ids). row.ids ∷ rest) (ids-unscored rows)
-
-pub same-ids : (rows others : List Answer) → map unscored rows ≡ map unscored others → map (λ (row : Answer). row.ids) rows ≡ map (λ (row : Answer). row.ids) others
-same-ids rows others same = sym (ids-unscored rows) ∙ ap (map (λ (row : Answer). row.ids)) same ∙ ids-unscored others

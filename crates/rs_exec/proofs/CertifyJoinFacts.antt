@@ -126,7 +126,7 @@ pub record IsNextOfBoth (asks others made : List SideAsk) (count all total : ℕ
   pub tells : Tells asks made count all ask
   pub tells_other : Tells others made count total ask
 
-length-one : {X : Type 0} (xs : List X) (x : X) → length (xs ++ x ∷ []) ≡ suc (length xs)
+pub length-one : {X : Type 0} (xs : List X) (x : X) → length (xs ++ x ∷ []) ≡ suc (length xs)
 length-one [] x = refl
 length-one (y ∷ ys) x = ap suc (length-one ys x)
 

@@ -46,7 +46,7 @@ use Rattle.rs_plan.specs.Lists.{World, list_of}
 use Rattle.rs_plan.specs.Trees.{Distinct, JoinOperator, Rank, RankScan, SeqScan, SetOperator, PlanTree}
 use Rattle.rs_ripple.specs.Stands.{BeginsWith}
 use Rattle.rs_exec.specs.Asking.{world_of}
-use Rattle.rs_exec.specs.Certifying.{AnswerAlike, AnswersFit, AsksNo, IsGreaterBy, HasNoSetOperator}
+use Rattle.rs_exec.specs.Certifying.{AnswerAlike, AnswersFit, AsksNo, IsGreaterBy}
 use Rattle.rs_exec.specs.Standing.{evaluation_for}
 use Rattle.rs_exec.proofs.CertifiedFacts.{are-worlds, certifies}
 use Rattle.rs_exec.proofs.CertifyFacts.{AreWorlds, Share, asks-alike, left_ask}
@@ -178,31 +178,33 @@ module _ (catalogue : CatalogDef) (query : Query) (predicate : ℕ) (lesser grea
   side-quiet left right lefts rights Left n = part-quiet left lefts n
   side-quiet left right lefts rights Right n = part-quiet right rights n
 
-  quiet : (number : ℕ) (tree : PlanTree) → HasNoSetOperator tree → AsksNo query predicate tree → (a : ℕ) → AnswerAlike catalogue lesser greater (questions w number tree a)
-  quiet number (SeqScan entry) ranked without a = tt
-  quiet number (RankScan entry term index) ranked without a = tt
-  quiet number (Rank term child) ranked without a =
+  quiet : (number : ℕ) (tree : PlanTree) → AsksNo query predicate tree → (a : ℕ) → AnswerAlike catalogue lesser greater (questions w number tree a)
+  quiet number (SeqScan entry) without a = tt
+  quiet number (RankScan entry term index) without a = tt
+  quiet number (Rank term child) without a =
       each-made (λ (q : Question). got_for lesser catalogue q ≡ got_for greater catalogue q) (puts_of w number (Rank term child)) (child_asks w number (Rank term child) a) (λ ask.
       each-append (λ (q : Question). got_for lesser catalogue q ≡ got_for greater catalogue q) (part_of (questions w number child) ask.number) (own_question w term (slice_get (list_of w number child) (ask.number - 1)))
-      (part-quiet (questions w number child) (quiet number child ranked without.1) ask.number)
+      (part-quiet (questions w number child) (quiet number child without.1) ask.number)
       (own-quiet term without.0 (slice_get (list_of w number child) (ask.number - 1))))
-  quiet number (JoinOperator kind left right) ranked without a =
+  quiet number (JoinOperator kind left right) without a =
       each-made (λ (q : Question). got_for lesser catalogue q ≡ got_for greater catalogue q) (puts_of w number (JoinOperator kind left right)) (child_asks w number (JoinOperator kind left right) a) (λ ask.
-      side-quiet (questions w number left) (questions w number right) (quiet number left ranked.0 without.0) (quiet number right ranked.1 without.1) ask.side ask.number)
-  quiet number (Distinct child) ranked without a =
+      side-quiet (questions w number left) (questions w number right) (quiet number left without.0) (quiet number right without.1) ask.side ask.number)
+  quiet number (Distinct child) without a =
       each-made (λ (q : Question). got_for lesser catalogue q ≡ got_for greater catalogue q) (puts_of w number (Distinct child)) (child_asks w number (Distinct child) a) (λ ask.
-      part-quiet (questions w number child) (quiet number child ranked without) ask.number)
-  quiet number (SetOperator left right) ranked without a = absurd ranked
+      part-quiet (questions w number child) (quiet number child without) ask.number)
+  quiet number (SetOperator left right) without a =
+      each-made (λ (q : Question). got_for lesser catalogue q ≡ got_for greater catalogue q) (puts_of w number (SetOperator left right)) (child_asks w number (SetOperator left right) a) (λ ask.
+      side-quiet (questions w 1 left) (questions w 2 right) (quiet 1 left without.0) (quiet 2 right without.1) ask.side ask.number)
 
-  module _ (term : ℕ) (child : PlanTree) (ranked : HasNoSetOperator child) (without : AsksNo query predicate child)
+  module _ (term : ℕ) (child : PlanTree) (without : AsksNo query predicate child)
       (fits : AnswersFit catalogue query (Rank term child) lesser) (other_fits : AnswersFit catalogue query (Rank term child) greater) where
     are : AreWorlds catalogue lesser greater query 1
-    are = are-worlds catalogue lesser greater query (Rank term child) 0 ranked fits other_fits
+    are = are-worlds catalogue lesser greater query (Rank term child) 0 fits other_fits
 
     share : (a : ℕ) → Share catalogue lesser greater query 1 child a
     share a =
-        certifies catalogue lesser greater query 1 are child ranked (plan-part catalogue query (Rank term child) fits.plan).0 fits.indexes other_fits.indexes a
-        (quiet 1 child ranked without a)
+        certifies catalogue lesser greater query 1 are child (plan-part catalogue query (Rank term child) fits.plan).0 fits.indexes other_fits.indexes a
+        (quiet 1 child without a)
 
     abbrev rows : List RankRow
     rows = list_of w 1 child

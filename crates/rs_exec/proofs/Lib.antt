@@ -7,6 +7,7 @@ mod CertifiedFacts
 mod CertifyDistinctFacts
 mod CertifyFacts
 mod CertifyJoinFacts
+mod CertifySetFacts
 mod CoreFacts
 mod CountFacts
 pub mod CoversFacts
@@ -52,5 +53,6 @@ mod StepFacts
 mod SumFacts
 mod TableFacts
 mod TurnFacts
+mod UnscoredFacts
 mod WorkedAsks
 mod WorkedJoin

@@ -16,15 +16,6 @@ use Rattle.rs_plan.specs.Plans.{IsPlan}
 use Rattle.rs_plan.specs.Trees.{Distinct, JoinOperator, Rank, RankScan, SeqScan, SetOperator, PlanTree}
 use Rattle.rs_exec.specs.Indexes.{PlanIndexesHold}
 
--- no set operator stands in the tree; none does in a plan of a query of one block
-abbrev pub HasNoSetOperator : PlanTree → Type 0
-HasNoSetOperator (SeqScan entry) = Unit {0}
-HasNoSetOperator (RankScan entry term index) = Unit {0}
-HasNoSetOperator (Rank term child) = HasNoSetOperator child
-HasNoSetOperator (JoinOperator kind left right) = HasNoSetOperator left × HasNoSetOperator right
-HasNoSetOperator (Distinct child) = HasNoSetOperator child
-HasNoSetOperator (SetOperator left right) = ⊥
-
 -- a plan is one of a query, and these answers fit it: its indexes hold them, and no term is worth more than its maximum
 pub record AnswersFit (catalogue : CatalogDef) (query : Query) (tree : PlanTree) (answer : Answering) : Type 0 where
   pub formed : IsQuery catalogue query

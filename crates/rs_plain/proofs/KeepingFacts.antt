@@ -21,7 +21,7 @@ use Rattle.rs_query.specs.declared.block.Block.{Block}
 use Rattle.rs_query.specs.declared.query.Query.{Query}
 use Rattle.rs_query.specs.declared.query.Query.TheVariants.{One, Set}
 use Rattle.rs_query.proofs.ExtendFacts.{HasRows-combinations}
-use Rattle.rs_plain.specs.Keeping.{IsWhole, IsWholeIn, answer_for, answer_in, keeps_duplicates, scored_block, scored_for, scored_query}
+use Rattle.rs_plain.specs.Keeping.{IsWhole, IsWholeIn, answer_for, answer_in, best_of, keeps_duplicates, scored_block, scored_for, scored_query}
 
 -- the rows that the scored combinations of a block make
 pub answers-block : (answer : Answering) (catalogue : CatalogDef) (number : ℕ) (block : Block) (rows : List (List ℕ))
@@ -81,12 +81,8 @@ each-cut : {A : Type 0} (P : A → Type 0) (limit : Option ℕ) (xs : List A) �
 each-cut P None xs all = all
 each-cut P (Some n) xs all = each-take P n xs all
 
--- the scored combinations that are left behind the order and the limit
-abbrev pub left_of : Option ℕ → List RankRow → List RankRow
-left_of limit scored = cut limit (stable (λ (row : RankRow). row.sum) scored)
-
 -- what holds of each one holds of each that is left
-each-left : (P : RankRow → Type 0) (limit : Option ℕ) (scored : List RankRow) → AllByRecursion P scored → AllByRecursion P (left_of limit scored)
+each-left : (P : RankRow → Type 0) (limit : Option ℕ) (scored : List RankRow) → AllByRecursion P scored → AllByRecursion P (best_of limit scored)
 each-left P limit scored all =
     each-cut P limit (stable (λ (row : RankRow). row.sum) scored) (AllByRecursion-stable (λ (row : RankRow). row.sum) P scored all)
 
@@ -96,7 +92,7 @@ same-scores catalogue query (row ∷ scored) = (refl, same-scores catalogue quer
 
 -- those that are left make the rows of the answer
 pub answers-left : (answer : Answering) (catalogue : CatalogDef) (query : Query) → keeps_duplicates query ≡ true
-    → map (answer_in catalogue query) (left_of (limit_of query) (scored_query answer catalogue query)) ≡ answer_of answer catalogue query (all_rows catalogue query)
+    → map (answer_in catalogue query) (best_of (limit_of query) (scored_query answer catalogue query)) ≡ answer_of answer catalogue query (all_rows catalogue query)
 answers-left answer catalogue query keeps =
     let scored = scored_query answer catalogue query in
     map-cut (answer_in catalogue query) (limit_of query) (stable (λ (row : RankRow). row.sum) scored)
@@ -130,6 +126,6 @@ whole-query answer catalogue (Set op left right limit) formed =
 
 -- and each that is left
 pub whole-left : (answer : Answering) (catalogue : CatalogDef) (query : Query) → IsQuery catalogue query
-    → AllByRecursion (IsWholeIn catalogue query) (left_of (limit_of query) (scored_query answer catalogue query))
+    → AllByRecursion (IsWholeIn catalogue query) (best_of (limit_of query) (scored_query answer catalogue query))
 whole-left answer catalogue query formed =
     each-left (IsWholeIn catalogue query) (limit_of query) (scored_query answer catalogue query) (whole-query answer catalogue query formed)

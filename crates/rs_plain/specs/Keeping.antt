@@ -1,11 +1,12 @@
 -- What is kept of a combination until the rows of the answer are known, and the row that is made of it.
-use Rattle.std.specs.Prelude.{ℕ, ◌≡◌, ◌++◌, ◌&&◌, Bool, false, not, List, map}
+use Rattle.std.specs.Prelude.{ℕ, ◌≡◌, ◌++◌, ◌&&◌, Bool, false, not, List, map, Option}
 use Rattle.rs_value.specs.declared.set_op.SetOp.TheVariants.{UnionAll}
 use Rattle.rs_rank.specs.declared.answer.Answer.{Answer}
 use Rattle.rs_rank.specs.declared.row.RankRow.{RankRow}
+use Rattle.rs_rank.specs.Stable.{stable}
 use Rattle.rs_expr.specs.Scoring.{Answering}
 use Rattle.rs_catalog.specs.Catalog.{CatalogDef}
-use Rattle.rs_query.specs.Answers.{score_of}
+use Rattle.rs_query.specs.Answers.{cut, score_of}
 use Rattle.rs_query.specs.Blocks.{block_in}
 use Rattle.rs_query.specs.Combinations.{all_combinations}
 use Rattle.rs_query.specs.Meaning.{outputs_of}
@@ -29,6 +30,14 @@ scored_block answer catalogue number block = map (scored_for answer catalogue nu
 abbrev pub scored_query : Answering → CatalogDef → Query → List RankRow
 scored_query answer catalogue (One block limit) = scored_block answer catalogue 1 block
 scored_query answer catalogue (Set op left right limit) = scored_block answer catalogue 1 left ++ scored_block answer catalogue 2 right
+
+-- the first rows of their stable order, as many as LIMIT says
+abbrev pub best_of : Option ℕ → List RankRow → List RankRow
+best_of limit rows = cut limit (stable (λ (row : RankRow). row.sum) rows)
+
+-- the best of the kept rows are the best of all rows, whatever rows come behind both
+abbrev pub HasBest : Option ℕ → List RankRow → List RankRow → Type 0
+HasBest limit kept all = (more : List RankRow) → best_of limit (kept ++ more) ≡ best_of limit (all ++ more)
 
 -- the row of the answer that is made of one: its output values are those of this block
 abbrev pub answer_for : CatalogDef → Block → RankRow → Answer

@@ -8,9 +8,9 @@ ghost use Rattle.rs_query.specs.Views.{all_rows};
 ghost use Rattle.rs_query.specs.WellFormed.{IsQuery};
 
 use crate::fault::PlainFault;
+use crate::limited::best_rows;
 use crate::outputs::query_answers;
 use crate::rows::query_rows;
-use crate::scored::scored_query;
 use rs_catalog::{Catalog, Snapshot};
 use rs_expr::Scorer;
 use rs_query::{Query, limit_of};
@@ -94,14 +94,12 @@ fn answer_with_duplicates<S: Scorer>(
         (evaluation_of (S.state scorer.old).answer catalog.now query.now (all_rows catalog.now query.now))
         (as_list result) (S.state scorer.old) (S.state scorer.new) }
 {
-    let mut scored = scored_query(alloc, catalog, query, scorer)?;
-    sort_stably(&mut scored)?;
-    cut(&mut scored, limit_of(query));
-    Ok(query_answers(alloc, catalog, query, &scored)?)
+    let best = best_rows(alloc, catalog, query, scorer)?;
+    Ok(query_answers(alloc, catalog, query, &best)?)
 }
 
 /// Drops the rows behind the limit, where there is one.
-fn cut<T: Drop>(rows: &mut Vec<T>, limit: Option<u32>)
+pub(crate) fn cut<T: Drop>(rows: &mut Vec<T>, limit: Option<u32>)
     ensures { rows.new.items ≡ cut limit rows.old.items }
 {
     if let Some(limit) = limit {

@@ -4,8 +4,10 @@
 #![tactic(auto)]
 
 mod answer;
+mod best;
 mod fault;
 mod laws;
+mod limited;
 mod outputs;
 mod rows;
 mod scored;

@@ -6,43 +6,17 @@ ghost use Rattle.rs_expr.specs.InOrder.{Inquires};
 ghost use Rattle.rs_query.specs.Answers.{score_of};
 ghost use Rattle.rs_query.specs.Questions.{asking};
 ghost use Rattle.rs_query.specs.Tables.{HasRows, all_entries, sizes_of};
-ghost use Rattle.rs_query.specs.Views.{all_rows};
-ghost use Rattle.rs_query.specs.WellFormed.{IsBlock, IsQuery};
-ghost use Rattle.rs_plain.specs.Keeping.{scored_block, scored_for, scored_query};
-ghost use Rattle.rs_plain.specs.Plain.{block_questions, plain_faults, questions_of, row_questions};
+ghost use Rattle.rs_query.specs.WellFormed.{IsBlock};
+ghost use Rattle.rs_plain.specs.Keeping.{scored_block, scored_for};
+ghost use Rattle.rs_plain.specs.Plain.{block_questions, plain_faults, row_questions};
 ghost use Rattle.rs_plain.specs.Results.{as_list};
 
 use crate::fault::PlainFault;
-use crate::sets::append_rows;
 use rs_catalog::Snapshot;
 use rs_expr::Scorer;
-use rs_query::{Block, KeptList, Query};
+use rs_query::{Block, KeptList};
 use rs_rank::{Ids, RankRow};
 use std::alloc::Global;
-
-/// All combinations of a query, block after block, each with its score. No more is kept of them until the rows of the
-/// answer are known.
-pub(crate) fn scored_query<S: Scorer>(
-    alloc: Global,
-    catalog: &Snapshot<'_>,
-    query: &Query,
-    scorer: &mut S,
-) -> Result<Vec<RankRow>, PlainFault>
-    requires { IsQuery catalog.now query.now }
-    ensures { Inquires PlainFault.Memory
-        (asking plain_faults (S.state scorer.old).answer catalog.now (questions_of catalog.now query.now (all_rows catalog.now query.now))
-        (scored_query (S.state scorer.old).answer catalog.now query.now))
-        (as_list result) (S.state scorer.old) (S.state scorer.new) }
-{
-    match query {
-        Query::One(block, _) => scored_block(alloc, catalog, block, 1, scorer),
-        Query::Set(_, left, right, _) => {
-            let first = scored_block(alloc, catalog, left, 1, scorer)?;
-            let second = scored_block(alloc, catalog, right, 2, scorer)?;
-            Ok(append_rows(first, second)?)
-        }
-    }
-}
 
 /// All combinations of a block of this number, each with its score.
 pub(crate) fn scored_block<S: Scorer>(
@@ -102,7 +76,7 @@ pub fn scored_rows<S: Scorer>(
 }
 
 /// The score of a combination of all entries: the sum of weight times worth over the terms, which are asked in order.
-fn score_for<S: Scorer>(
+pub(crate) fn score_for<S: Scorer>(
     catalog: &Snapshot<'_>,
     block: &Block,
     ids: &Ids,

@@ -33,7 +33,7 @@ use Rattle.rs_query.proofs.ExtendFacts.{HasRows-combinations, IsChoice-length, s
 use Rattle.rs_query.proofs.GoFacts.{combination-row}
 use Rattle.rs_query.proofs.MaskStepFacts.{IsChoice-outside, has-none, is_inside-more}
 
-abbrev rows_cmp : List ℕ → List ℕ → Ordering
+abbrev pub rows_cmp : List ℕ → List ℕ → Ordering
 rows_cmp = slice_cmp nat_cmp
 
 -- a list is among others where one of them is the same
@@ -88,6 +88,19 @@ same_rows-flips x y = ap is_eq (nat_list_cmp_total.antisymm x y) ∙ turned (row
   turned Less = refl
   turned Equal = refl
   turned Greater = refl
+
+-- what was found of the combinations that pass a test, sorted, are these
+pub found-sorted : (catalogue : CatalogDef) (block : Block) (test : List ℕ → Bool) (is : List ℕ → Type 0) (start found ordered : List (List ℕ)) → start ≡ [] → Adds is start found
+    → IsPermutation found ordered → IsSorted rows_cmp ordered → ((rows : List ℕ) → is rows → In rows (filter test (all_combinations catalogue block)))
+    → ((rows : List ℕ) → In rows (filter test (all_combinations catalogue block)) → is rows) → ordered ≡ filter test (all_combinations catalogue block)
+found-sorted catalogue block test is start found ordered empty a moved sorted forth back =
+    let all : found ≡ a.more = a.behind ∙ ap (λ list. list ++ a.more) empty in
+    let once : IsDistinct same_rows found = subst (IsDistinct same_rows) (sym all) a.once in
+    Climbs-same rows_cmp nat_list_cmp_total (λ rows. rows) ordered (filter test (all_combinations catalogue block))
+    (Climbs-once ordered sorted (IsDistinct-IsPermutation same_rows same_rows-flips found ordered moved once))
+    (Climbs-filter rows_cmp (λ rows. rows) test (all_combinations catalogue block) (Climbs-combinations catalogue block (sizes_of catalogue block) (all_entries block)))
+    (λ rows h. forth rows ((a.each rows).0 (subst (In rows) all (In-moved ordered found rows (IsPermutation-sym found ordered moved) h))))
+    (λ rows h. In-moved found ordered rows moved (subst (In rows) (sym all) ((a.each rows).1 (back rows h))))
 
 -- the first entry with a new row, counted from 0
 record FirstNew (old rows : List ℕ) : Type 0 where
@@ -188,17 +201,27 @@ module _ (catalogue : CatalogDef) (block : Block) (old : List ℕ) where
         };
       }
 
+module _ (catalogue : CatalogDef) (block : Block) (is : IsBlock catalogue block) where
+  -- no rows satisfy the conditions where one without columns fails
+  none-satisfied : (rows : List ℕ) → satisfies catalogue block 0 (replicate 6 0) ≡ false → satisfies catalogue block (all_entries block) rows ≡ false
+  none-satisfied rows fails =
+      satisfies-fails catalogue block 0 (all_entries block) (replicate 6 0) rows (λ entry some has. absurd (has-none entry has)) (λ e inside. inside-any e inside) is.conjuncts fails
+    where
+      inside-any : (e : ℕ) → is_inside e 0 ≡ true → is_inside e (all_entries block) ≡ true
+      inside-any e inside = subst (λ m. is_inside e m ≡ true) (or_comm 0 (all_entries block) ∙ or_zero_r (all_entries block)) (is_inside-more 0 (all_entries block) e inside)
+
+  pub fails-none : satisfies catalogue block 0 (replicate 6 0) ≡ false → all_combinations catalogue block ≡ []
+  fails-none fails = none (all_combinations catalogue block) (λ rows h. (In-combinations-back catalogue block (sizes_of catalogue block) (all_entries block) rows h).1) where
+    none : (lists : List (List ℕ)) → ((rows : List ℕ) → In rows lists → satisfies catalogue block (all_entries block) rows ≡ true) → lists ≡ []
+    none [] each = refl
+    none (rows ∷ lists) each = absurd (true≢false (sym (each rows (inl refl)) ∙ none-satisfied rows fails))
+
 module _ (catalogue : CatalogDef) (block : Block) (is : IsBlock catalogue block) (old : List ℕ) where
   -- there is none where a condition without columns fails
   pub before-fails : (bound : ℕ) (found : List (List ℕ)) → satisfies catalogue block 0 (replicate 6 0) ≡ false → Adds (IsNewBefore catalogue block old bound) found found
   before-fails bound found fails =
       Adds-none (IsNewBefore catalogue block old bound) found
-      (λ rows new.
-      true≢false (sym new.new_at.combination.satisfied
-      ∙ satisfies-fails catalogue block 0 (all_entries block) (replicate 6 0) rows (λ entry some has. absurd (has-none entry has)) (λ e inside. inside-any e inside) is.conjuncts fails))
-    where
-      inside-any : (e : ℕ) → is_inside e 0 ≡ true → is_inside e (all_entries block) ≡ true
-      inside-any e inside = subst (λ m. is_inside e m ≡ true) (or_comm 0 (all_entries block) ∙ or_zero_r (all_entries block)) (is_inside-more 0 (all_entries block) e inside)
+      (λ rows new. true≢false (sym new.new_at.combination.satisfied ∙ none-satisfied catalogue block is rows fails))
 
   -- behind an entry of which an old view has no row there is none more
   pub before-all : (bound : ℕ) (start new : List (List ℕ)) → 1 ≤ bound → bound ≤ length block.from → row_number old bound ≡ 0
@@ -243,17 +266,11 @@ module _ (catalogue : CatalogDef) (block : Block) (is : IsBlock catalogue block)
   pub fresh-found : (start found ordered : List (List ℕ)) → length old ≡ 6 → start ≡ [] → Adds (IsNewBefore catalogue block old (length block.from)) start found
       → IsPermutation found ordered → IsSorted rows_cmp ordered → ordered ≡ fresh_combinations catalogue block old (sizes_of catalogue block)
   fresh-found start found ordered six empty a moved sorted =
-      let all : found ≡ a.more = a.behind ∙ ap (λ list. list ++ a.more) empty in
-      let once : IsDistinct same_rows found = subst (IsDistinct same_rows) (sym all) a.once in
-      Climbs-same rows_cmp nat_list_cmp_total (λ rows. rows) ordered (fresh_combinations catalogue block old (sizes_of catalogue block))
-      (Climbs-once ordered sorted (IsDistinct-IsPermutation same_rows same_rows-flips found ordered moved once))
-      (Climbs-filter rows_cmp (λ rows. rows) (has_new_row old) (combinations catalogue block (sizes_of catalogue block) (all_entries block))
-      (Climbs-combinations catalogue block (sizes_of catalogue block) (all_entries block)))
-      (λ rows h. fresh-forth rows six ((a.each rows).0 (subst (In rows) all (In-moved ordered found rows (IsPermutation-sym found ordered moved) h))))
-      (λ rows h. In-moved found ordered rows moved (subst (In rows) (sym all) ((a.each rows).1 (fresh-back catalogue block old rows h))))
+      found-sorted catalogue block (has_new_row old) (IsNewBefore catalogue block old (length block.from)) start found ordered empty a moved sorted
+      (λ rows. fresh-forth rows six) (fresh-back catalogue block old)
 
 -- a test that each item passes leaves all
-filter-each : {X : Type 0} (p : X → Bool) (xs : List X) → ((x : X) → In x xs → p x ≡ true) → filter p xs ≡ xs
+pub filter-each : {X : Type 0} (p : X → Bool) (xs : List X) → ((x : X) → In x xs → p x ≡ true) → filter p xs ≡ xs
 filter-each p [] each = refl
 filter-each p (x ∷ xs) each =
     ap (λ b. cond b (x ∷ filter p xs) (filter p xs)) (each x (inl refl)) ∙ ap (λ rest. x ∷ rest) (filter-each p xs (λ y h. each y (inr h)))

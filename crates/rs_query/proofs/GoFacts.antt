@@ -1,17 +1,19 @@
 -- The combinations that go on from rows that are chosen: by the rows of the next step's entry, of which only those that fit its tie can be one's.
 use Rattle.std.proofs.Common.{ℕ, suc, ◌≡◌, ◌∙◌, ◌+◌, ◌-◌, ◌<◌, ◌≤◌, ◌⊎◌, ◌&&◌, ◌++◌, Bool, true, false, cond, List, [], ◌∷◌, length, get_or, set, Some, None, refl, sym, ap, ap₂, subst, inl, inr, bit_or, arith}
-use Rattle.std.specs.Prelude.{Option, slice_get, unwrap_or}
+use Rattle.std.specs.Prelude.{IfSome, Option, slice_get, unwrap_or}
 use Rattle.std.specs.Int.{bit_at}
-use Rattle.std.specs.List.{list_all}
+use Rattle.std.specs.List.{AllByRecursion, list_all}
 use Rattle.std.proofs.lemmas.Bool.{cases_eq, cases_lt, eq-eqb, true≢false}
 use Rattle.std.proofs.lemmas.Option.{unwrap_or-slice_get}
 use Rattle.rs_value.specs.declared.kind.Kind.{Kind}
 use Rattle.rs_value.specs.Value.{kind_of}
+use Rattle.rs_value.specs.declared.value.Value.{Value}
 use Rattle.rs_order.specs.Climbing.{In}
 use Rattle.rs_order.proofs.ClimbingFacts.{AllByRecursion-In}
 use Rattle.rs_rank.specs.Masks.{has_number, mask_of}
 use Rattle.rs_catalog.specs.Catalog.{CatalogDef}
 use Rattle.rs_query.specs.declared.block.Block.{Block}
+use Rattle.rs_query.specs.declared.listed.Listed.{Listed}
 use Rattle.rs_query.specs.declared.step.Step.{Step}
 use Rattle.rs_query.specs.declared.tie.Tie.{Tie}
 use Rattle.rs_query.specs.Choices.{AgreeOn, IsChoice}
@@ -19,7 +21,7 @@ use Rattle.rs_query.specs.Combinations.{holds_inside, satisfies}
 use Rattle.rs_query.specs.Conjuncts.{ConjunctDef}
 use Rattle.rs_query.specs.EqualRows.{IsNext}
 use Rattle.rs_query.specs.Meaning.{all_hold, column_value, conjunct_holds, is_inside}
-use Rattle.rs_query.specs.Searching.{Adds, Fits, GoesOn, HasKinds, IsBegun, IsCombination, IsStep, IsTie, IsTied, cell_of}
+use Rattle.rs_query.specs.Searching.{Adds, AreListed, AreTied, Fits, GoesOn, HasKinds, IsBegun, IsCombination, IsStep, IsTie, cell_of, left_cells, other_columns, right_cells}
 use Rattle.rs_query.specs.Tables.{HasRow, all_entries, row_number, size_of, sizes_of}
 use Rattle.rs_query.specs.WellFormed.{IsBlock, IsColumn, IsConjunct, column_kind}
 use Rattle.rs_query.proofs.AddsFacts.{Adds-both, Adds-none, Adds-one, Adds-same}
@@ -27,7 +29,7 @@ use Rattle.rs_query.proofs.EntryFacts.{conjuncts-inside}
 use Rattle.rs_query.proofs.EquatedFacts.{equality-same}
 use Rattle.rs_query.proofs.ExtendFacts.{HasRows-choice, IsChoice-length, all-fewer, and_both, get_or-sizes_of, satisfies-fails}
 use Rattle.rs_query.proofs.HoldNewFacts.{satisfies-new}
-use Rattle.rs_query.proofs.MaskStepFacts.{IsChoice-only, IsChoice-set, has-back, has-more, has-own, has-up_to, is_inside-more, row_number-other, row_number-own}
+use Rattle.rs_query.proofs.MaskStepFacts.{IsChoice-only, IsChoice-set, has-back, has-more, has-own, has-up_to, is_inside-more, own-number, row_number-other, row_number-own}
 
 -- of those that go on by a step, the ones whose row of its entry comes before this one, or all behind the last row
 pub record IsPassed (catalogue : CatalogDef) (block : Block) (mask : ℕ) (step : Step) (rows : List ℕ) (steps : List Step) (row : ℕ) (z : List ℕ) : Type 0 where
@@ -63,17 +65,17 @@ module _ (catalogue : CatalogDef) (block : Block) (is : IsBlock catalogue block)
       sym (ap (λ b. cond b (conjunct_holds catalogue block rows c) true) inside) ∙ whole
 
   -- the cells of two columns that are equated are equal
-  pub equated-cells : (mask entry : ℕ) (tie : Tie) (rows : List ℕ) → IsTied catalogue block mask entry tie → IsCombination catalogue block rows
-      → cell_of catalogue block tie.left (row_number rows tie.left.0) ≡ cell_of catalogue block tie.right (row_number rows tie.right.0)
-  equated-cells mask entry tie rows tied combination =
+  pub equated-cells : (mask entry : ℕ) (left right : ℕ × ℕ) (rows : List ℕ) → AreTied catalogue block mask entry left right → IsCombination catalogue block rows
+      → cell_of catalogue block left (row_number rows left.0) ≡ cell_of catalogue block right (row_number rows right.0)
+  equated-cells mask entry left right rows tied combination =
       let c = tied.equated.conjunct in
       let is_conjunct = AllByRecursion-In (IsConjunct catalogue block) block.conjuncts is.conjuncts c tied.equated.is_in in
       let holds = combination-holds rows combination c tied.equated.is_in in
-      let left_kind = kinds tie.left tied.left tied.left_kind in
-      let right_kind = kinds tie.right tied.right tied.right_kind in
+      let left_is = kinds left tied.left_column tied.left_kind in
+      let right_is = kinds right tied.right_column tied.right_kind in
       elim tied.equated.is_by.is_equality [
-        | inl e ↦ equality-same catalogue block rows c is_conjunct tie.left tie.right e left_kind right_kind holds
-        | inr e ↦ sym (equality-same catalogue block rows c is_conjunct tie.right tie.left e right_kind left_kind holds)
+        | inl e ↦ equality-same catalogue block rows c is_conjunct left right e left_is right_is holds
+        | inr e ↦ sym (equality-same catalogue block rows c is_conjunct right left e right_is left_is holds)
       ]
     where
       kinds : (column : ℕ × ℕ) → IsColumn catalogue block column → HasKinds catalogue block column → (kind : Kind) → column_kind catalogue block column ≡ Some kind
@@ -128,15 +130,43 @@ module _ (catalogue : CatalogDef) (block : Block) (is : IsBlock catalogue block)
         and_false true = refl
         and_false false = refl
 
+    -- the cells of a combination that goes on are equal in columns that are tied, and in others of the same entries
+    tied-cells : (steps : List Step) (z : List ℕ) (left right : ℕ × ℕ) → AreTied catalogue block mask step.entry left right → GoesOn catalogue block (step ∷ steps) mask rows z
+        → cell_of catalogue block left (row_number rows left.0) ≡ cell_of catalogue block right (row_number z step.entry)
+    tied-cells steps z left right tied goes =
+        ap (cell_of catalogue block left) (goes.agrees left.0 tied.left_column.0 tied.equated.is_by.is_chosen)
+        ∙ equated-cells mask step.entry left right z tied goes.combination
+        ∙ ap (λ entry. cell_of catalogue block right (row_number z entry)) tied.equated.is_by.is_next
+
+    other-cells : (steps : List Step) (z : List ℕ) (left : ℕ × ℕ) (others : List ((ℕ × ℕ) × (ℕ × ℕ))) → 1 ≤ left.0 → has_number mask left.0 ≡ true
+        → AllByRecursion (λ (pair : (ℕ × ℕ) × (ℕ × ℕ)). AreTied catalogue block (mask_of left.0) step.entry pair.0 pair.1) others → GoesOn catalogue block (step ∷ steps) mask rows z
+        → left_cells catalogue block others (row_number rows left.0) ≡ right_cells catalogue block others (row_number z step.entry)
+    other-cells steps z left [] some chosen tied goes = refl
+    other-cells steps z left (pair ∷ others) some chosen tied goes =
+        let own : pair.0.0 ≡ left.0 = own-number left.0 pair.0.0 some tied.0.left_column.0 tied.0.equated.is_by.is_chosen in
+        ap₂ (λ (v : Value) (vs : List Value). v ∷ vs)
+        (ap (cell_of catalogue block pair.0) (goes.agrees left.0 some chosen ∙ ap (row_number z) (sym own))
+        ∙ equated-cells (mask_of left.0) step.entry pair.0 pair.1 z tied.0 goes.combination
+        ∙ ap (λ entry. cell_of catalogue block pair.1 (row_number z entry)) tied.0.equated.is_by.is_next)
+        (other-cells steps z left others some chosen tied.1 goes)
+
     -- the row of a combination that goes on fits
     pub GoesOn-fits : (steps : List Step) (z : List ℕ) → GoesOn catalogue block (step ∷ steps) mask rows z → Fits catalogue block step.tie rows (row_number z step.entry)
     GoesOn-fits steps z goes = go step.tie is_step.tie where
+      listed-cells : (left right : ℕ × ℕ) (listed : Option Listed) → AreTied catalogue block mask step.entry left right → IfSome listed (AreListed catalogue block left right)
+          → left_cells catalogue block (other_columns listed) (row_number rows left.0) ≡ right_cells catalogue block (other_columns listed) (row_number z step.entry)
+      listed-cells left right None tied are = refl
+      listed-cells left right (Some listed) tied are =
+          other-cells steps z left listed.others.items tied.left_column.0 tied.equated.is_by.is_chosen
+          (subst (λ entry. AllByRecursion (λ (pair : (ℕ × ℕ) × (ℕ × ℕ)). AreTied catalogue block (mask_of left.0) entry pair.0 pair.1) listed.others.items)
+          tied.equated.is_by.is_next are.others)
+          goes
+
       go : (tie : Option Tie) → IsTie catalogue block mask step.entry tie → Fits catalogue block tie rows (row_number z step.entry)
       go None tied = tt
       go (Some tie) tied =
-          ap (cell_of catalogue block tie.left) (goes.agrees tie.left.0 tied.left.0 tied.equated.is_by.is_chosen)
-          ∙ equated-cells mask step.entry tie z tied goes.combination
-          ∙ ap (λ entry. cell_of catalogue block tie.right (row_number z entry)) tied.equated.is_by.is_next
+          ap₂ (λ (v : Value) (vs : List Value). v ∷ vs) (tied-cells steps z tie.left tie.right tied.columns goes)
+          (listed-cells tie.left tie.right tie.listed tied.columns tied.listed)
 
     -- it goes on from the longer rows
     pub GoesOn-split : (steps : List Step) (z : List ℕ) → IsBegun catalogue block mask rows → GoesOn catalogue block (step ∷ steps) mask rows z

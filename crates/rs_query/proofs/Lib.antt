@@ -5,6 +5,7 @@ pub mod BlockFacts
 pub mod BoundedFacts
 pub mod CellFacts
 pub mod ChoiceFacts
+pub mod EndFacts
 pub mod EntryFacts
 pub mod EquatedFacts
 pub mod ExtendFacts
@@ -24,7 +25,9 @@ pub mod ListFacts
 pub mod LocalFacts
 pub mod MaskStepFacts
 pub mod NextFacts
+pub mod PieceFacts
 pub mod QuestionFacts
+pub mod RefinedFacts
 pub mod RangeFacts
 pub mod RiseFacts
 pub mod ScoreFacts

@@ -58,6 +58,13 @@ has-none number has =
     let none = bit_at_above 0 0 (number - 1) (let some : 0 < 2 ^ 0 = omega arith in some) (omega arith) in
     omega arith
 
+-- the mask of a number has that number alone
+pub own-number : (number other : ℕ) → 1 ≤ number → 1 ≤ other → has_number (mask_of number) other ≡ true → other ≡ number
+own-number number other some some_other has = elim (has-back 0 number other some some_other has) [
+  | inl e ↦ e
+  | inr none ↦ absurd (has-none other none)
+]
+
 -- the numbers up to one
 pub has-up_to : (count number : ℕ) → 1 ≤ number → number ≤ count → has_number (2 ^ count - 1) number ≡ true
 has-up_to count number some most = eq-eqb (bit_at (2 ^ count - 1) (number - 1)) 1 (bit_at_ones count (number - 1) (omega arith))

@@ -23,7 +23,7 @@ pub record IsStepTo (steps : List Step) (entry : ℕ) : Type 0 where
   pub is_to : step.entry ≡ entry
 
 -- a step to an entry of the block
-abbrev IsOfBlock : Block → Step → Type 0
+abbrev pub IsOfBlock : Block → Step → Type 0
 IsOfBlock block step = (1 ≤ step.entry) × (step.entry ≤ length block.from)
 
 -- no row at all
@@ -56,7 +56,7 @@ module _ (catalogue : CatalogDef) (block : Block) where
     | inr later ↦ inr (record { step = later.step; is_in = inr later.is_in; is_to = later.is_to })
   ]
 
-  AreSteps-each : (start end : ℕ) (steps : List Step) → AreSteps catalogue block start end steps → AllByRecursion (IsOfBlock block) steps
+  pub AreSteps-each : (start end : ℕ) (steps : List Step) → AreSteps catalogue block start end steps → AllByRecursion (IsOfBlock block) steps
   AreSteps-each start end [] are = tt
   AreSteps-each start end (step ∷ steps) are = ((are.0.least, are.0.most), AreSteps-each (bit_or start (mask_of step.entry)) end steps are.1)
 
@@ -68,7 +68,7 @@ in_range-at (first ∷ steps) rows step are h = elim h [
   | inr k ↦ in_range-at steps rows step are.2 k
 ]
 
-in_range-from : (steps : List Step) (rows : List ℕ) → ((step : Step) → In step steps → (step.above < row_number rows step.entry) × (row_number rows step.entry ≤ step.last)) → AreInRange steps rows
+pub in_range-from : (steps : List Step) (rows : List ℕ) → ((step : Step) → In step steps → (step.above < row_number rows step.entry) × (row_number rows step.entry ≤ step.last)) → AreInRange steps rows
 in_range-from [] rows each = tt
 in_range-from (step ∷ steps) rows each = let first = each step (inl refl) in (first.0, first.1, in_range-from steps rows (λ s h. each s (inr h)))
 

@@ -22,12 +22,12 @@ module _ (catalogue : CatalogDef) (block : Block) (is : IsBlock catalogue block)
 
   -- the last row of the step is one of the tie
   pub tie-last : (tie : Tie) → step.tie ≡ Some tie → step.last ≤ size_of catalogue block tie.right.0
-  tie-last tie has = subst (λ entry. step.last ≤ size_of catalogue block entry) (sym (tie-of tie has).equated.is_by.is_next) is_step.last
+  tie-last tie has = subst (λ entry. step.last ≤ size_of catalogue block entry) (sym (tie-of tie has).columns.equated.is_by.is_next) is_step.last
 
   -- with a tie a step begins at the first row of all
   tie-start : (tie : Tie) → step.tie ≡ Some tie → step.above ≡ 0
   tie-start tie has = elim is_step.start [
-    | inl none ↦ absurd (has-none tie.left.0 (subst (λ m. has_number m tie.left.0 ≡ true) none (tie-of tie has).equated.is_by.is_chosen))
+    | inl none ↦ absurd (has-none tie.left.0 (subst (λ m. has_number m tie.left.0 ≡ true) none (tie-of tie has).columns.equated.is_by.is_chosen))
     | inr e ↦ e
   ]
 

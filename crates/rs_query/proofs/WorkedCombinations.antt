@@ -3,6 +3,7 @@ use Rattle.std.proofs.Common.{◌≡◌, [], ◌∷◌, refl}
 use Rattle.std.specs.List.{filter}
 use Rattle.rs_query.specs.Combinations.{choices, numbers_to}
 use Rattle.rs_query.specs.Fresh.{has_new_row}
+use Rattle.rs_query.specs.Pieces.{is_between}
 
 -- the row numbers of a table of four rows
 numbers_to-four : numbers_to 4 ≡ 1 ∷ 2 ∷ 3 ∷ 4 ∷ []
@@ -42,3 +43,11 @@ fresh-none = refl
 -- from an empty view all are
 fresh-empty : filter (has_new_row (0 ∷ 0 ∷ [])) (choices 3 (1 ∷ 2 ∷ [])) ≡ (1 ∷ 1 ∷ []) ∷ (1 ∷ 2 ∷ []) ∷ []
 fresh-empty = refl
+
+-- of two entries with four rows and two: a piece of the second row and the third one of the first entry
+between-two : filter (is_between 1 3) (choices 3 (4 ∷ 2 ∷ [])) ≡ (2 ∷ 1 ∷ []) ∷ (2 ∷ 2 ∷ []) ∷ (3 ∷ 1 ∷ []) ∷ (3 ∷ 2 ∷ []) ∷ []
+between-two = refl
+
+-- a piece of no row has none
+between-nothing : filter (is_between 2 2) (choices 3 (4 ∷ 2 ∷ [])) ≡ []
+between-nothing = refl

@@ -9,6 +9,7 @@ pub mod Fresh
 pub mod Growth
 pub mod Lent
 pub mod Meaning
+pub mod Pieces
 pub mod Questions
 pub mod Searching
 pub mod Stored

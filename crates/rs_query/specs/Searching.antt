@@ -1,7 +1,7 @@
 -- How combinations are found: entry by entry, along the equalities of the conditions.
-use Rattle.std.specs.Prelude.{ℕ, ◌≡◌, ◌⊎◌, ◌↔◌, ◌≤◌, ◌<◌, ◌-◌, ◌++◌, Bool, true, false, pos, List, [], ◌∷◌, length, bit_or, Option, Some, None, IfSome, slice_get, unwrap_or, option_and_then}
+use Rattle.std.specs.Prelude.{ℕ, ◌≡◌, ◌⊎◌, ◌↔◌, ◌≤◌, ◌<◌, ◌-◌, ◌++◌, Bool, true, false, pos, List, [], ◌∷◌, length, bit_or, map, Option, Some, None, IfSome, unwrap_or, option_and_then}
 use Rattle.std.specs.Cmp.Lexicographic.{slice_cmp}
-use Rattle.std.specs.List.{IsDistinct}
+use Rattle.std.specs.List.{AllByRecursion, IsDistinct}
 use Rattle.std.specs.Ordering.{eq_by_cmp, nat_cmp}
 use Rattle.rs_value.specs.Value.{kind_of}
 use Rattle.rs_value.specs.declared.kind.Kind.{Kind}
@@ -14,11 +14,13 @@ use Rattle.rs_catalog.specs.Catalog.{CatalogDef}
 use Rattle.rs_query.specs.Choices.{AgreeOn, IsChoice}
 use Rattle.rs_query.specs.Combinations.{satisfies}
 use Rattle.rs_query.specs.Conjuncts.{ConjunctDef}
-use Rattle.rs_query.specs.EqualRows.{IsNext}
+use Rattle.rs_query.specs.EqualRows.{AreSameRows}
 use Rattle.rs_query.specs.Meaning.{conjuncts_within}
 use Rattle.rs_query.specs.Tables.{all_entries, entry_table, row_number, size_of, sizes_of}
 use Rattle.rs_query.specs.WellFormed.{IsColumn, column_kind}
 use Rattle.rs_query.specs.declared.block.Block.{Block}
+use Rattle.rs_query.specs.declared.equal_rows.EqualRows.{EqualRows}
+use Rattle.rs_query.specs.declared.listed.Listed.{Listed}
 use Rattle.rs_query.specs.declared.step.Step.{Step}
 use Rattle.rs_query.specs.declared.tie.Tie.{Tie}
 
@@ -32,14 +34,17 @@ abbrev pub HasKinds : CatalogDef → Block → ℕ × ℕ → Type 0
 HasKinds catalogue block column =
     (kind : Kind) (row : ℕ) → column_kind catalogue block column ≡ Some kind → 1 ≤ row → row ≤ size_of catalogue block column.0 → kind_of (cell_of catalogue block column row) ≡ kind
 
--- for each row of the one column the first row of the other one with an equal cell, and for each row of the other one the next such row
-pub record AreEqualRows (catalogue : CatalogDef) (block : Block) (left right : ℕ × ℕ) (first next : List ℕ) : Type 0 where
-  pub lefts : length first ≡ size_of catalogue block left.0
-  pub rights : length next ≡ size_of catalogue block right.0
-  pub firsts : (row : ℕ) → 1 ≤ row → row ≤ size_of catalogue block left.0
-      → IsNext (λ other. cell_of catalogue block left row ≡ cell_of catalogue block right other) 0 (size_of catalogue block right.0) (unwrap_or (slice_get first (row - 1)) 0)
-  pub nexts : (row : ℕ) → 1 ≤ row → row ≤ size_of catalogue block right.0
-      → IsNext (λ other. cell_of catalogue block right row ≡ cell_of catalogue block right other) row (size_of catalogue block right.0) (unwrap_or (slice_get next (row - 1)) 0)
+-- the cells of a row in the first columns of some pairs, and in the second ones
+abbrev pub left_cells : CatalogDef → Block → List ((ℕ × ℕ) × (ℕ × ℕ)) → ℕ → List Value
+left_cells catalogue block columns row = map (λ (pair : (ℕ × ℕ) × (ℕ × ℕ)). cell_of catalogue block pair.0 row) columns
+
+abbrev pub right_cells : CatalogDef → Block → List ((ℕ × ℕ) × (ℕ × ℕ)) → ℕ → List Value
+right_cells catalogue block columns row = map (λ (pair : (ℕ × ℕ) × (ℕ × ℕ)). cell_of catalogue block pair.1 row) columns
+
+-- for each row of the one entry the first row of the other one whose cells are equal in all of these columns, and for each row of the other one the next such row
+abbrev pub AreEqualRows : CatalogDef → Block → ℕ → ℕ → List ((ℕ × ℕ) × (ℕ × ℕ)) → EqualRows → Type 0
+AreEqualRows catalogue block left right columns rows =
+    AreSameRows (left_cells catalogue block columns) (right_cells catalogue block columns) (size_of catalogue block left) (size_of catalogue block right) rows.first.items rows.next.items
 
 -- a conjunct equates a column of an entry in a mask, the left one, with a column of this entry
 pub record IsEquatedBy (conjunct : ConjunctDef) (mask entry : ℕ) (left right : ℕ × ℕ) : Type 0 where
@@ -53,14 +58,23 @@ pub record AreEquated (block : Block) (mask entry : ℕ) (left right : ℕ × �
   pub is_in : In conjunct block.conjuncts
   pub is_by : IsEquatedBy conjunct mask entry left right
 
--- such columns, and their rows with equal cells where these are listed
+-- such columns, and their cells are of their kinds
+pub record AreTied (catalogue : CatalogDef) (block : Block) (mask entry : ℕ) (left right : ℕ × ℕ) : Type 0 where
+  pub left_column : IsColumn catalogue block left
+  pub right_column : IsColumn catalogue block right
+  pub left_kind : HasKinds catalogue block left
+  pub right_kind : HasKinds catalogue block right
+  pub equated : AreEquated block mask entry left right
+
+-- more columns of the same two entries, and their rows with equal cells in all of them
+pub record AreListed (catalogue : CatalogDef) (block : Block) (left right : ℕ × ℕ) (listed : Listed) : Type 0 where
+  pub others : AllByRecursion (λ (pair : (ℕ × ℕ) × (ℕ × ℕ)). AreTied catalogue block (mask_of left.0) right.0 pair.0 pair.1) listed.others.items
+  pub rows : AreEqualRows catalogue block left.0 right.0 ((left, right) ∷ listed.others.items) listed.rows
+
+-- columns that are tied, and their rows where these are listed
 pub record IsTied (catalogue : CatalogDef) (block : Block) (mask entry : ℕ) (tie : Tie) : Type 0 where
-  pub left : IsColumn catalogue block tie.left
-  pub right : IsColumn catalogue block tie.right
-  pub left_kind : HasKinds catalogue block tie.left
-  pub right_kind : HasKinds catalogue block tie.right
-  pub equated : AreEquated block mask entry tie.left tie.right
-  pub listed : IfSome tie.listed (λ rows. AreEqualRows catalogue block tie.left tie.right rows.first.items rows.next.items)
+  pub columns : AreTied catalogue block mask entry tie.left tie.right
+  pub listed : IfSome tie.listed (AreListed catalogue block tie.left tie.right)
 
 abbrev pub IsTie : CatalogDef → Block → ℕ → ℕ → Option Tie → Type 0
 IsTie catalogue block mask entry None = Unit {0}
@@ -81,10 +95,19 @@ abbrev pub AreSteps : CatalogDef → Block → ℕ → ℕ → List Step → Typ
 AreSteps catalogue block mask end [] = mask ≡ end
 AreSteps catalogue block mask end (step ∷ steps) = IsStep catalogue block mask step × AreSteps catalogue block (bit_or mask (mask_of step.entry)) end steps
 
--- the row of a step's entry can be this one: its cell is equal to that of the earlier entry, where the step has a tie
+-- the columns beside the first two in which a tie looks for equal cells: only where the rows are listed
+abbrev pub other_columns : Option Listed → List ((ℕ × ℕ) × (ℕ × ℕ))
+other_columns None = []
+other_columns (Some listed) = listed.others.items
+
+abbrev pub tied_columns : Tie → List ((ℕ × ℕ) × (ℕ × ℕ))
+tied_columns tie = (tie.left, tie.right) ∷ other_columns tie.listed
+
+-- the row of a step's entry can be this one: its cells are equal to those of the earlier entry, where the step has a tie
 abbrev pub Fits : CatalogDef → Block → Option Tie → List ℕ → ℕ → Type 0
 Fits catalogue block None rows row = Unit {0}
-Fits catalogue block (Some tie) rows row = cell_of catalogue block tie.left (row_number rows tie.left.0) ≡ cell_of catalogue block tie.right row
+Fits catalogue block (Some tie) rows row =
+    left_cells catalogue block (tied_columns tie) (row_number rows tie.left.0) ≡ right_cells catalogue block (tied_columns tie) row
 
 -- rows are chosen for the entries in a mask, and the conditions hold that speak of these alone
 pub record IsBegun (catalogue : CatalogDef) (block : Block) (mask : ℕ) (rows : List ℕ) : Type 0 where

@@ -83,7 +83,7 @@ impl Block {
     }
 
     /// Whether the conditions without columns hold.
-    fn holds_of_all(&self, catalog: &Snapshot<'_>) -> bool
+    pub(crate) fn holds_of_all(&self, catalog: &Snapshot<'_>) -> bool
         requires { IsBlock catalog.now self.now }
         ensures { result ≡ satisfies catalog.now self.now 0 (replicate 6 0) }
     {
@@ -118,7 +118,7 @@ impl Block {
     }
 
     /// Finds the combinations that have these rows at the entries in a mask, and go on by these steps.
-    fn extend(
+    pub(crate) fn extend(
         &self,
         catalog: &Snapshot<'_>,
         steps: &[Step],

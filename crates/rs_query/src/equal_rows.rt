@@ -2,7 +2,7 @@
 
 ghost use Rattle.std.specs.Prelude.{◌≡◌, ◌<◌, ◌≤◌, ◌-◌, ◌^◌, ℕ, IfOk, OnOk, Some, length, slice_get, unwrap_or};
 ghost use Rattle.std.specs.BTreeMap.{get};
-ghost use Rattle.rs_query.specs.EqualRows.{AreFirst, AreNextBehind, HasKey, IsNext};
+ghost use Rattle.rs_query.specs.EqualRows.{AreEnds, AreFirst, AreNextBehind, HasKey, IsNext, LeadOn, end_of};
 
 use rs_value::Memory;
 use std::alloc::Global;
@@ -53,6 +53,23 @@ impl EqualRows {
     {
         self.next[row as usize - 1]
     }
+
+    /// For each row of the one column, and for each row of the other one, the last row of the other one that has an equal cell, or 0.
+    /// So two rows have the same number exactly where their cells are equal.
+    pub fn ends(self) -> (Vec<u32>, Vec<u32>)
+        requires few { length self.next.items < 2 ^ 32 }
+        requires within { (row : ℕ) → 1 ≤ row → row ≤ length self.first.items → unwrap_or (slice_get self.first.items (row - 1)) 0 ≤ length self.next.items }
+        requires lead { LeadOn self.next.items }
+        ensures firsts { (row : ℕ) → 1 ≤ row → row ≤ length self.first.items
+            → unwrap_or (slice_get result.0.items (row - 1)) 0 ≡ end_of result.1.items (unwrap_or (slice_get self.first.items (row - 1)) 0) 0 }
+        ensures nexts { AreEnds self.next.items result.1.items }
+        ensures first_sized { length result.0.items ≡ length self.first.items }
+        ensures next_sized { length result.1.items ≡ length self.next.items }
+    {
+        let ends = next_ends(self.next);
+        let firsts = first_ends(self.first, &ends);
+        (firsts, ends)
+    }
 }
 
 /// For each row the next row with an equal key. The map is empty, and is made that of the first row of each key.
@@ -90,4 +107,64 @@ fn first_rows<K: Ord + Drop>(
         first.push(firsts.get(key).copied().unwrap_or(0))?;
     }
     Ok(first)
+}
+
+/// For each row the last one of those that follow it.
+fn next_ends(mut next: Vec<u32>) -> Vec<u32>
+    requires few { length next.items < 2 ^ 32 }
+    requires lead { LeadOn next.items }
+    ensures ends { AreEnds next.items result.items }
+    ensures sized { length result.items ≡ length next.items }
+{
+    let mut place = next.len();
+    while place > 0 {
+        place -= 1;
+        let end = end_of(&next, next[place], place as u32 + 1);
+        next[place] = end;
+    }
+    next
+}
+
+/// For each row the end of its first row, or 0.
+fn first_ends(mut first: Vec<u32>, ends: &[u32]) -> Vec<u32>
+    requires { (row : ℕ) → 1 ≤ row → row ≤ length first.items → unwrap_or (slice_get first.items (row - 1)) 0 ≤ length ends.now }
+    ensures ends { (row : ℕ) → 1 ≤ row → row ≤ length first.items
+        → unwrap_or (slice_get result.items (row - 1)) 0 ≡ end_of ends.now (unwrap_or (slice_get first.items (row - 1)) 0) 0 }
+    ensures sized { length result.items ≡ length first.items }
+{
+    for place in 0..first.len() {
+        let end = end_of(ends, first[place], 0);
+        first[place] = end;
+    }
+    first
+}
+
+/// The end that a row has, or another one where the row is 0.
+fn end_of(ends: &[u32], row: u32, other: u32) -> u32
+    requires { row ≤ length ends.now }
+    ensures { result ≡ end_of ends.now row other }
+{
+    if row == 0 {
+        other
+    } else {
+        ends[row as usize - 1]
+    }
+}
+
+/// The keys, each behind the number of its row.
+pub(crate) fn numbered<K: Copy + Drop>(
+    alloc: Global,
+    numbers: &[u32],
+    keys: &[K],
+) -> Result<Vec<(u32, K)>, Memory>
+    requires { length keys.now ≤ length numbers.now }
+    ensures sized { IfOk result (λ pairs. length pairs.items ≡ length keys.now) }
+    ensures pairs { IfOk result (λ pairs. (place : ℕ) (pair : ℕ × K) → slice_get pairs.items place ≡ Some pair
+        → (slice_get keys.now place ≡ Some pair.1) × (unwrap_or (slice_get numbers.now place) 0 ≡ pair.0)) }
+{
+    let mut pairs = Vec::new(alloc);
+    for place in 0..keys.len() {
+        pairs.push((numbers[place], keys[place]))?;
+    }
+    Ok(pairs)
 }

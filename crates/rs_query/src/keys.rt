@@ -1,6 +1,6 @@
 //! The rows of two columns that have equal cells.
 
-ghost use Rattle.std.specs.Prelude.{◌≡◌, ◌≤◌, IfOk, Some, length};
+ghost use Rattle.std.specs.Prelude.{◌≡◌, ◌≤◌, ◌++◌, ℕ, IfOk, List, Some, [], ◌∷◌, length};
 ghost use Rattle.rs_query.specs.EqualRows.{AreKeys};
 ghost use Rattle.rs_query.specs.Searching.{AreEqualRows, HasKinds, cell_of};
 ghost use Rattle.rs_query.specs.Tables.{size_of};
@@ -9,7 +9,8 @@ ghost use Rattle.rs_value.specs.declared.kind.Kind.TheVariants as kind;
 ghost use Rattle.rs_value.specs.declared.value.Value.TheVariants as value;
 
 use crate::block::Block;
-use crate::equal_rows::EqualRows;
+use crate::equal_rows::{EqualRows, numbered};
+use crate::sizes::size_of;
 use rs_catalog::Snapshot;
 use rs_table::Cell;
 use rs_value::{Kind, Memory, Text};
@@ -28,7 +29,7 @@ impl Block {
         requires left { IsColumn catalog.now self.now left }
         requires right { IsColumn catalog.now self.now right }
         requires kinds { column_kind catalog.now self.now left ≡ column_kind catalog.now self.now right }
-        ensures { IfOk result (λ rows. AreEqualRows catalog.now self.now left right rows.first.items rows.next.items) }
+        ensures { IfOk result (AreEqualRows catalog.now self.now left.0 right.0 ((left, right) ∷ [])) }
     {
         match self.kind(catalog, left) {
             Kind::Int => {
@@ -39,6 +40,45 @@ impl Block {
             Kind::Text => {
                 let lefts = self.texts(alloc, catalog, left)?;
                 let rights = self.texts(alloc, catalog, right)?;
+                EqualRows::of(alloc, &lefts, rights)
+            }
+        }
+    }
+
+    /// The rows that are equal in some columns, as those that are equal in two more columns too. These are of one kind, and of the
+    /// same entries.
+    pub(crate) fn refined(
+        &self,
+        alloc: Global,
+        catalog: &Snapshot<'_>,
+        rows: EqualRows,
+        left: (u8, u8),
+        right: (u8, u8),
+    ) -> Result<EqualRows, Memory>
+        requires block { IsBlock catalog.now self.now }
+        requires left { IsColumn catalog.now self.now left }
+        requires right { IsColumn catalog.now self.now right }
+        requires kinds { column_kind catalog.now self.now left ≡ column_kind catalog.now self.now right }
+        requires rows { (columns : List ((ℕ × ℕ) × (ℕ × ℕ))) × AreEqualRows catalog.now self.now left.0 right.0 columns rows }
+        ensures { (columns : List ((ℕ × ℕ) × (ℕ × ℕ))) → AreEqualRows catalog.now self.now left.0 right.0 columns rows
+            → IfOk result (AreEqualRows catalog.now self.now left.0 right.0 (columns ++ (left, right) ∷ [])) }
+    {
+        // A table has so few rows that their numbers are u32.
+        let _ = size_of(catalog, self, right.0);
+        let (left_ends, right_ends) = rows.ends();
+        match self.kind(catalog, left) {
+            Kind::Int => {
+                let lefts = self.numbers(alloc, catalog, left)?;
+                let rights = self.numbers(alloc, catalog, right)?;
+                let lefts = numbered(alloc, &left_ends, &lefts)?;
+                let rights = numbered(alloc, &right_ends, &rights)?;
+                EqualRows::of(alloc, &lefts, rights)
+            }
+            Kind::Text => {
+                let lefts = self.texts(alloc, catalog, left)?;
+                let rights = self.texts(alloc, catalog, right)?;
+                let lefts = numbered(alloc, &left_ends, &lefts)?;
+                let rights = numbered(alloc, &right_ends, &rights)?;
                 EqualRows::of(alloc, &lefts, rights)
             }
         }

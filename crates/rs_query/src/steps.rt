@@ -4,13 +4,14 @@ ghost use Rattle.std.specs.Prelude.{◌≡◌, ◌⊎◌, ◌≤◌, ℕ, IfOk, 
 ghost use Rattle.std.specs.List.{AllByRecursion};
 ghost use Rattle.rs_rank.specs.Masks.{has_number};
 ghost use Rattle.rs_catalog.specs.Catalog.{CatalogDef};
-ghost use Rattle.rs_query.specs.Searching.{AreEqualRows, AreEquated, AreSteps, IsEquatedBy, IsRanged, IsStep, IsTie};
+ghost use Rattle.rs_query.specs.Pieces.{BeginsAt};
+ghost use Rattle.rs_query.specs.Searching.{AreEquated, AreSteps, IsEquatedBy, IsRanged, IsStep, IsTie};
 ghost use Rattle.rs_query.specs.Tables.{all_entries};
-ghost use Rattle.rs_query.specs.WellFormed.{IsBlock, IsColumn, column_kind};
+ghost use Rattle.rs_query.specs.WellFormed.{IsBlock};
 
 use crate::block::Block;
 use crate::conjunct::Conjunct;
-use crate::equal_rows::EqualRows;
+use crate::row_search::RowSearch;
 use crate::sizes::size_of;
 use crate::step::Step;
 use crate::tie::Tie;
@@ -19,9 +20,10 @@ use rs_rank::{has_number, mask_of, union};
 use rs_value::Memory;
 use std::alloc::Global;
 
-/// A step that is reached at most so many times looks at each row of its entry, in place of lists of the rows of equal cells: to make
-/// the lists takes about as long as so many looks at each row.
-const MOST_SCANS: u32 = 16;
+/// A step that is reached at most so many times looks at each row of its entry, in place of lists of the rows of equal cells. At
+/// 100,000 rows the lists of one equality take as long as 60 such looks in a build with checks at run time, and as a few hundred
+/// without them.
+const MOST_SCANS: u32 = 64;
 
 impl Block {
     /// The steps of the search that begins at an entry, the pivot. Of the pivot new rows are looked at, which come behind those of
@@ -38,6 +40,7 @@ impl Block {
         requires most { pivot ≤ length self.now.from }
         ensures steps { IfOk result (λ steps. AreSteps catalog.now self.now 0 (all_entries self.now) steps.items) }
         ensures ranges { IfOk result (λ steps. AllByRecursion (IsRanged catalog.now self.now old.now pivot) steps.items) }
+        ensures first { IfOk result (λ steps. BeginsAt pivot steps.items) }
     {
         let mut steps = Vec::new(alloc);
         let mut mask = 0;
@@ -94,8 +97,8 @@ impl Block {
         ensures entry { IfOk result (λ step. step.entry ≡ entry) }
         ensures range { IfOk result (λ step. IsRanged catalog.now self.now old.now pivot step) }
     {
-        let is_scanned = self.is_scanned(catalog, mask, pivot, old);
-        let tie = self.tie(alloc, catalog, mask, entry, is_scanned)?;
+        let search = self.search(catalog, mask, pivot, old);
+        let tie = self.tie(alloc, catalog, mask, entry, search)?;
         let size = size_of(catalog, self, entry);
         let old_size = old[entry as usize - 1];
         Ok(Step {
@@ -111,25 +114,32 @@ impl Block {
         })
     }
 
-    /// Whether the step from the entries in a mask is reached a few times at most: it comes right behind the pivot, which has few new
-    /// rows. The answer bears on nothing but the time.
-    fn is_scanned(&self, catalog: &Snapshot<'_>, mask: u8, pivot: u8, old: &[u32; 6]) -> bool
+    /// How the step from the entries in a mask finds its rows. Where the pivot has few new rows, the step right behind it is reached a
+    /// few times at most, and each step behind that one not often enough to pay for the lists of more than one equality. The answer
+    /// bears on nothing but the time.
+    fn search(&self, catalog: &Snapshot<'_>, mask: u8, pivot: u8, old: &[u32; 6]) -> RowSearch
         requires block { IsBlock catalog.now self.now }
         requires least { 1 ≤ pivot }
         requires most { pivot ≤ length self.now.from }
     {
         let new_rows = size_of(catalog, self, pivot).saturating_sub(old[pivot as usize - 1]);
-        mask == mask_of(pivot) && new_rows <= MOST_SCANS
+        if new_rows > MOST_SCANS {
+            RowSearch::AllEqualities
+        } else if mask == mask_of(pivot) {
+            RowSearch::Scan
+        } else {
+            RowSearch::OneEquality
+        }
     }
 
-    /// An equality that ties an entry to those in a mask, with its rows of equal cells unless it is scanned for them.
+    /// An equality that ties an entry to those in a mask, with the rows of equal cells unless it is scanned for them.
     fn tie(
         &self,
         alloc: Global,
         catalog: &Snapshot<'_>,
         mask: u8,
         entry: u8,
-        is_scanned: bool,
+        search: RowSearch,
     ) -> Result<Option<Tie>, Memory>
         requires block { IsBlock catalog.now self.now }
         ensures { IfOk result (λ tie. IsTie catalog.now self.now mask entry tie) }
@@ -139,7 +149,7 @@ impl Block {
                 // The cells of both columns are of their kinds.
                 let _ = self.kind(catalog, left);
                 let _ = self.kind(catalog, right);
-                let listed = self.listed(alloc, catalog, left, right, is_scanned)?;
+                let listed = self.listed(alloc, catalog, left, right, search)?;
                 Ok(Some(Tie {
                     left,
                     right,
@@ -148,27 +158,6 @@ impl Block {
             }
             None => Ok(None),
         }
-    }
-
-    /// The rows of equal cells of two columns of one kind, or none where these are scanned.
-    fn listed(
-        &self,
-        alloc: Global,
-        catalog: &Snapshot<'_>,
-        left: (u8, u8),
-        right: (u8, u8),
-        is_scanned: bool,
-    ) -> Result<Option<EqualRows>, Memory>
-        requires block { IsBlock catalog.now self.now }
-        requires left { IsColumn catalog.now self.now left }
-        requires right { IsColumn catalog.now self.now right }
-        requires kinds { column_kind catalog.now self.now left ≡ column_kind catalog.now self.now right }
-        ensures { IfOk result (λ listed. IfSome listed (λ rows. AreEqualRows catalog.now self.now left right rows.first.items rows.next.items)) }
-    {
-        if is_scanned {
-            return Ok(None);
-        }
-        Ok(Some(self.equal_rows(alloc, catalog, left, right)?))
     }
 
     /// A column of an entry in a mask, and one of another entry, that a condition equates.
@@ -186,7 +175,7 @@ impl Block {
 }
 
 /// The columns that a conjunct equates, that of an entry in a mask first, where the other one is of this entry.
-fn equated_by(conjunct: &Conjunct, mask: u8, entry: u8) -> Option<((u8, u8), (u8, u8))>
+pub(crate) fn equated_by(conjunct: &Conjunct, mask: u8, entry: u8) -> Option<((u8, u8), (u8, u8))>
     requires { IfSome conjunct.now.equality (λ columns. (1 ≤ columns.0.0) × (columns.0.0 ≤ 8) × (1 ≤ columns.1.0) × (columns.1.0 ≤ 8)) }
     ensures { IfSome result (λ columns. IsEquatedBy conjunct.now mask entry columns.0 columns.1) }
 {

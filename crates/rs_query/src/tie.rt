@@ -8,7 +8,7 @@ ghost use Rattle.rs_query.specs.WellFormed.{IsBlock};
 ghost use Rattle.rs_table.specs.Lent.{shown};
 
 use crate::block::Block;
-use crate::equal_rows::EqualRows;
+use crate::listed::Listed;
 use rs_catalog::Snapshot;
 use rs_table::Cell;
 
@@ -17,8 +17,9 @@ use rs_table::Cell;
 pub(crate) struct Tie {
     pub left: (u8, u8),
     pub right: (u8, u8),
-    /// The rows of equal cells, where they are listed. Else they are found by a look at each row.
-    pub listed: Option<EqualRows>,
+    /// The rows of equal cells in these columns and in others, where they are listed. Else those of equal cells in these columns
+    /// are found by a look at each row.
+    pub listed: Option<Listed>,
 }
 
 impl Tie {
@@ -30,7 +31,7 @@ impl Tie {
         ensures { IsNext (Fits catalog.now block.now (Some self.now) rows.now) 0 last result }
     {
         match &self.listed {
-            Some(listed) => up_to(last, listed.first(rows[self.left.0 as usize - 1])),
+            Some(listed) => up_to(last, listed.rows.first(rows[self.left.0 as usize - 1])),
             None => self.scan(catalog, block, rows, 0, last),
         }
     }
@@ -53,7 +54,7 @@ impl Tie {
         ensures { IsNext (Fits catalog.now block.now (Some self.now) rows.now) row last result }
     {
         match &self.listed {
-            Some(listed) => up_to(last, listed.next(row)),
+            Some(listed) => up_to(last, listed.rows.next(row)),
             None => self.scan(catalog, block, rows, row, last),
         }
     }
@@ -69,6 +70,7 @@ impl Tie {
     ) -> u32
         requires block { IsBlock catalog.now block.now }
         requires tied { (mask : ℕ) × (entry : ℕ) × IsTied catalog.now block.now mask entry self.now × HasRows catalog.now block.now mask rows.now }
+        requires unlisted { self.now.listed ≡ None }
         requires last { last ≤ size_of catalog.now block.now self.now.right.0 }
         ensures { IsNext (Fits catalog.now block.now (Some self.now) rows.now) behind last result }
     {

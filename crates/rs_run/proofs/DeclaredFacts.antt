@@ -26,7 +26,7 @@ use Rattle.rs_statement.specs.Steps as statement
 use Rattle.rs_run.specs.declared.fault.RunFault.{RunFault}
 use Rattle.rs_run.specs.Reached.{AreNotClosed, IsNotClosed, LeadsByViews}
 use Rattle.rs_run.specs.Viewing.{DoesByViews, HeldView, Kept, ViewState, grown_view, growth_questions, room_for_view, view_named}
-use Rattle.rs_run.proofs.HoldSteps.{numbered-ok}
+use Rattle.rs_run.proofs.NumberedFacts.{numbered-ok}
 use Rattle.rs_run.proofs.ViewLeft.{IsMaking, view-step}
 
 abbrev named_by : Bool → HeldView → Result ViewDef Fault → Result ViewDef Fault

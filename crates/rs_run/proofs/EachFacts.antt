@@ -14,7 +14,7 @@ use Rattle.rs_syntax.specs.Syntax as syntax
 use Rattle.rs_syntax.specs.declared.name.Name.{Name}
 use Rattle.rs_syntax.proofs.EachFacts.{IsParsed, each_is_parsed}
 use Rattle.rs_expr.specs.Scoring.{Answering}
-use Rattle.rs_catalog.specs.Catalog.{CatalogDef}
+use Rattle.rs_catalog.specs.Catalog.{CatalogDef, empty}
 use Rattle.rs_catalog.specs.declared.room.What.TheVariants as what
 use Rattle.rs_bind.specs.Indexes.{index_def_of}
 use Rattle.rs_bind.specs.Inserts.{insert_of}
@@ -39,11 +39,12 @@ use Rattle.rs_run.specs.Faults.{WordsRun}
 use Rattle.rs_run.specs.Generated.{finds_generated, unfetched}
 use Rattle.rs_run.specs.Plain.{HasTokens, ScriptRuns, TextRuns, as_it_is, read, runs, source_of, unlexed, unparsed, unread}
 use Rattle.rs_run.specs.Running.{IsFormRun, IsRun, IsRunOf, OfForm}
-use Rattle.rs_run.specs.Threshold.{DoesByScan, DoesNext, ScanState, ScansRun, counted_step, first_statement, scanned_step}
+use Rattle.rs_run.specs.Numbered.{DoesNext, first_statement}
+use Rattle.rs_run.specs.Threshold.{DoesByScan, ScansRun, scanned_step}
 use Rattle.rs_run.specs.Told.{told_step}
 use Rattle.rs_run.specs.Top.{top_lines}
 use Rattle.rs_run.specs.Viewing as viewing
-use Rattle.rs_run.specs.Viewing.{DoesByViews, DoesKept, DoesNextByViews, Kept, ViewState, ViewsRun, beside_views, declared_step, first_view_statement, joined_step, numbered_step}
+use Rattle.rs_run.specs.Viewing.{DoesByViews, DoesKept, Kept, ViewsRun, beside_views, declared_step, first_view_statement, joined_step}
 use Rattle.rs_words.specs.Certifying.{joined_cert_run}
 use Rattle.rs_words.specs.Feeding.{pairs_run}
 use Rattle.rs_words.proofs.CheckedFacts.{some-check_run}
@@ -53,6 +54,7 @@ use Rattle.rs_run.specs.Words.{Certify, Check, Feed, Form, RunGenerated, RunScri
 use Rattle.rs_run.specs.declared.fault.RunFault.{RunFault}
 use Rattle.rs_run.specs.declared.fault.RunFault.TheVariants.{NotEligible, Statement, Usage}
 use Rattle.rs_run.specs.declared.fault.ScriptWord.TheVariants.{Ta, View}
+use Rattle.rs_run.proofs.NumberedFacts.{some-next}
 
 -- a fetch finds something under each name, a file or none
 abbrev pub HasFiles : Finds → Type 0
@@ -144,7 +146,7 @@ module _ (finds : Finds) (has : HasFiles finds) (answer : Answering) where
       → (step : events_in.Step RunFault CatalogDef) × ((made : Step CatalogDef) × Does finds answer Plainly catalogue command made × (step ≡ told_step Statement made))
   does-told catalogue command own = (told_step Statement own.0, (own.0, own.1, refl))
 
-  each_by_scan : (number : ℕ) (catalogue : CatalogDef) (command : Command) → (step : events_in.Step RunFault CatalogDef) × DoesByScan finds answer number catalogue command step
+  pub each_by_scan : (number : ℕ) (catalogue : CatalogDef) (command : Command) → (step : events_in.Step RunFault CatalogDef) × DoesByScan finds answer number catalogue command step
   each_by_scan number catalogue (CreateTable name columns file) =
       does-told catalogue (CreateTable name columns file) (table finds has answer Plainly catalogue name file (with_room catalogue what.Table name (columns_of columns)))
   each_by_scan number catalogue (CreatePredicate name params max cost formula) =
@@ -161,11 +163,8 @@ module _ (finds : Finds) (has : HasFiles finds) (answer : Answering) where
   each_by_scan number catalogue (syntax.Fetch count name) = (still (Err (NotEligible Ta number)), refl)
   each_by_scan number catalogue (Close name) = (still (Err (NotEligible Ta number)), refl)
 
-  pub each_next : (state : ScanState) (command : Command) → (step : events_in.Step RunFault ScanState) × DoesNext finds answer state command step
-  each_next state command = let own = each_by_scan state.number state.catalogue command in (counted_step state.number own.0, (own.0, own.1, refl))
-
   pub each_scans : (commands : List Command) → (run : WordsRun) × ScansRun finds answer commands run
-  each_scans commands = some-run (DoesNext finds answer) each_next first_statement commands
+  each_scans commands = some-run (DoesNext (DoesByScan finds answer)) (some-next (DoesByScan finds answer) each_by_scan) (first_statement empty) commands
 
 -- the statements of a script whose queries are kept as views
 module _ (finds : Finds) (has : HasFiles finds) (answer : Answering) where
@@ -174,7 +173,7 @@ module _ (finds : Finds) (has : HasFiles finds) (answer : Answering) where
       → (step : events_in.Step RunFault Kept) × ((made : Step Kept) × DoesKept finds answer kept command made × (step ≡ told_step Statement made))
   kept-told kept command own = (told_step Statement own.0, (own.0, own.1, refl))
 
-  each_by_views : (number : ℕ) (kept : Kept) (command : Command) → (step : events_in.Step RunFault Kept) × DoesByViews finds answer number kept command step
+  pub each_by_views : (number : ℕ) (kept : Kept) (command : Command) → (step : events_in.Step RunFault Kept) × DoesByViews finds answer number kept command step
   each_by_views number kept (CreateTable name columns file) =
       let own = table finds has answer Plainly kept.catalogue name file (with_room kept.catalogue what.Table name (columns_of columns)) in
       kept-told kept (CreateTable name columns file) (beside_views kept.views own.0, (own.0, own.1, refl))
@@ -194,11 +193,8 @@ module _ (finds : Finds) (has : HasFiles finds) (answer : Answering) where
   each_by_views number kept (Explain query) = (still (Err (NotEligible View number)), refl)
   each_by_views number kept (ExplainAnalyze query) = (still (Err (NotEligible View number)), refl)
 
-  pub each_next_by_views : (state : ViewState) (command : Command) → (step : events_in.Step RunFault ViewState) × DoesNextByViews finds answer state command step
-  each_next_by_views state command = let own = each_by_views state.number state.kept command in (numbered_step state.number own.0, (own.0, own.1, refl))
-
   pub each_views : (commands : List Command) → (run : WordsRun) × ViewsRun finds answer commands run
-  each_views commands = some-run (DoesNextByViews finds answer) each_next_by_views first_view_statement commands
+  each_views commands = some-run (DoesNext (DoesByViews finds answer)) (some-next (DoesByViews finds answer) each_by_views) first_view_statement commands
 
 -- and so have the generated scripts
 pub each_generated : (finds : Finds) (answer : Answering) (number rows : ℕ) → (run : Run) × IsRunOf finds answer (RunGenerated number rows) run

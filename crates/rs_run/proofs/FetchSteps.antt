@@ -16,7 +16,7 @@ use Rattle.rs_query.specs.declared.query.Query.{Query}
 use Rattle.rs_plain.specs.Plain.{evaluation_of}
 use Rattle.rs_typing.specs.declared.fault.BindFault.{BindFault}
 use Rattle.rs_view.specs.Holding.{HasItsAnswer, limited}
-use Rattle.rs_view.specs.Views.{ViewDef, most_kept}
+use Rattle.rs_view.specs.Views.{ViewDef, most_kept, rows_in}
 use Rattle.rs_view.proofs.HoldingFacts.{limited-has, limited-query}
 use Rattle.rs_events.specs.Events.{Put, Score, puts}
 use Rattle.rs_outside.specs.Files.{Finds}
@@ -32,7 +32,8 @@ use Rattle.rs_run.specs.declared.fault.RunFault.{RunFault}
 use Rattle.rs_run.specs.Later.{LeadsTo}
 use Rattle.rs_run.specs.Reached.{LeadsByViews, PutsAsPlain, bare, without_views}
 use Rattle.rs_run.specs.Viewing.{DoesByViews, HeldView, Kept, ViewState, fetch_step, fetched_rows, view_named}
-use Rattle.rs_run.proofs.HoldSteps.{AllHave, numbered-ok}
+use Rattle.rs_run.proofs.HoldSteps.{AllHave}
+use Rattle.rs_run.proofs.NumberedFacts.{numbered-ok}
 use Rattle.rs_run.proofs.ViewLeft.{IsMaking, view-step}
 
 -- lines that are put
@@ -68,11 +69,11 @@ module _ (answer : Answering) where
       → view_named name.text kept.views ≡ Ok view → PutsAsPlain answer kept count name (limited (min wanted (most_kept view.query)) view.query)
   fetch-plain kept count name wanted view has number found =
       let query = limited (min wanted (most_kept view.query)) view.query in
-      let rows = take wanted view.rows in
+      let rows = take wanted (rows_in kept.catalogue view) in
       let gives = limited-has answer kept.catalogue view wanted has in
       let fetched : fetched_rows kept count name ≡ Ok rows =
-      ap (λ (c : Result ℕ BindFault). or_bind_fault c >>= λ wanted. view_named name.text kept.views >>= λ v. Ok (take wanted v.rows)) number
-      ∙ ap (λ (v : Result ViewDef Fault). v >>= λ v. Ok (take wanted v.rows)) found in
+      ap (λ (c : Result ℕ BindFault). or_bind_fault c >>= λ wanted. view_named name.text kept.views >>= λ v. Ok (take wanted (rows_in kept.catalogue v))) number
+      ∙ ap (λ (v : Result ViewDef Fault). v >>= λ v. Ok (take wanted (rows_in kept.catalogue v))) found in
       let step : fetch_step kept count name ≡ lines_step (rank_lines 1 rows) kept = ap (refused_or (λ rows. lines_step (rank_lines 1 rows) kept)) fetched in
       record {
         formed = limited-query answer kept.catalogue view wanted has;

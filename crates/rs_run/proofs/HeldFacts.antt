@@ -1,6 +1,6 @@
 -- The held views as a map by name: what a look-up, a removal and a new entry are to the list of views, and which of them stand.
-use Rattle.std.proofs.Common.{ℕ, ◌≡◌, ◌∙◌, Bool, true, false, cond, List, [], ◌∷◌, ◌++◌, zero, suc, length, take, eqb, eq-eqb, append-nil, refl, sym, ap, subst, arith}
-use Rattle.std.specs.Prelude.{not, min, Option, Some, None, Result, Ok, Err, if◌then◌else◌, option_map, slice_get}
+use Rattle.std.proofs.Common.{ℕ, ◌≡◌, ◌∙◌, Bool, true, false, cond, List, [], ◌∷◌, ◌++◌, zero, suc, length, eqb, eq-eqb, append-nil, refl, sym, ap, subst}
+use Rattle.std.specs.Prelude.{not, Option, Some, None, Result, Ok, Err, if◌then◌else◌, option_map, slice_get}
 use Rattle.std.specs.List.{AllByRecursion, filter}
 use Rattle.std.specs.Map.{keys_of, lookup, remove_entry}
 use Rattle.std.specs.Str.{bytes_eq}
@@ -171,10 +171,11 @@ pub stand-step : (answer : Answering) (catalogue : CatalogDef) (finds : Finds) (
 stand-step answer catalogue finds command step next views on all written does leaves =
     stand-on answer on catalogue next (grows-step answer catalogue finds command step next written does leaves) views all
 
--- the first ones of some items, where more are wanted than there are
-pub take-within : {A : Type 0} (n : ℕ) (xs : List A) → take (min n (length xs)) xs ≡ take n xs
-take-within zero xs = let none : min 0 (length xs) ≡ 0 = omega arith in ap (λ (m : ℕ). take m xs) none
-take-within (suc n) [] = let none : min (suc n) 0 ≡ 0 = omega arith in ap (λ (m : ℕ). take m []) none
-take-within (suc n) (x ∷ xs) =
-    let more : min (suc n) (suc (length xs)) ≡ suc (min n (length xs)) = omega arith in
-    ap (λ (m : ℕ). take m (x ∷ xs)) more ∙ ap (λ rest. x ∷ rest) (take-within n xs)
+-- a view that is held by a name stands
+pub stand-named : (answer : Answering) (catalogue : CatalogDef) (name : List ℕ) (views : List HeldView) (view : ViewDef) → AllStand answer catalogue views → lookup (is_key name) views ≡ Some view
+    → Stands answer catalogue view
+stand-named answer catalogue name [] view all some = absurd cc
+stand-named answer catalogue name (held ∷ views) view all some = go (stand-named answer catalogue name views view all.1) (is_key name held.0) some where
+  go : (lookup (is_key name) views ≡ Some view → Stands answer catalogue view) → (b : Bool) → cond b (Some held.1) (lookup (is_key name) views) ≡ Some view → Stands answer catalogue view
+  go rest true some = let own : held.1 ≡ view = cc in subst (Stands answer catalogue) own all.0
+  go rest false some = rest some

@@ -1,6 +1,6 @@
 -- Between any two statements under the word `view` each held view has its answer.
-use Rattle.std.proofs.Common.{ℕ, suc, ◌≡◌, false, List, [], ◌∷◌, map, sym, ap, subst}
-use Rattle.std.specs.Prelude.{not, Result, Ok, Err}
+use Rattle.std.proofs.Common.{ℕ, ◌≡◌, false, List, [], ◌∷◌, map, sym, subst}
+use Rattle.std.specs.Prelude.{not, Ok}
 use Rattle.std.specs.List.{AllByRecursion, flat_map}
 use Rattle.std.specs.Str.{bytes_eq}
 use Rattle.rs_order.proofs.EachFacts.{each-behind, each-filter, each-front, each-push, each-weaker}
@@ -17,22 +17,14 @@ use Rattle.rs_view.proofs.HoldingFacts.{asked-well, grown-has, made-has, still-h
 use Rattle.rs_view.proofs.LifeFacts.{IsGood}
 use Rattle.rs_outside.specs.Files.{Finds}
 use Rattle.rs_events.specs.Sequence.{Step}
-use Rattle.rs_events.proofs.SteppedFacts.{step_of}
 use Rattle.rs_run.specs.declared.fault.RunFault.{RunFault}
-use Rattle.rs_run.specs.NumbersIn.{HasNumbersInDeclare, HaveNumbersInDeclares}
 use Rattle.rs_run.specs.Reached.{AllHaveTheirAnswers, LeadsByViews}
-use Rattle.rs_run.specs.Viewing.{DoesByViews, HeldView, Kept, ViewState, grown_view, growth_questions, numbered_step}
+use Rattle.rs_run.specs.Viewing.{DoesByViews, HeldView, Kept, ViewState, grown_view, growth_questions}
 use Rattle.rs_run.proofs.HeldFacts.{grows-step}
 use Rattle.rs_run.proofs.NarrowFacts.{bound-well}
+use Rattle.rs_run.proofs.NumberedFacts.{numbered-ok}
 use Rattle.rs_run.proofs.SizeFacts.{SameSizes, keeps-step, sizes-same}
 use Rattle.rs_run.proofs.ViewLeft.{view-step}
-
--- what a numbered step leaves is what its own step does
-pub numbered-ok : (number : ℕ) (own : Step RunFault Kept) (next : ViewState) → (numbered_step number own).outcome ≡ Ok next → own.outcome ≡ Ok next.kept
-numbered-ok number own next = go own.outcome where
-  go : (outcome : Result Kept RunFault) → (numbered_step number (step_of own.events outcome)).outcome ≡ Ok next → outcome ≡ Ok next.kept
-  go (Ok kept) e = let is : record { number = suc number; kept = kept } ≡ next = cc in ap (λ (s : ViewState). Ok s.kept) is
-  go (Err fault) e = absurd cc
 
 module _ (answer : Answering) where
   abbrev Has : CatalogDef → HeldView → Type 0
@@ -59,32 +51,32 @@ module _ (answer : Answering) where
 
   -- a statement
   abbrev LeavesAll : Command → Kept → Type 0
-  LeavesAll command next = IsWritten command → HasNumbersInDeclare command → AllHaveTheirAnswers answer next
+  LeavesAll command next = IsWritten command → AllHaveTheirAnswers answer next
 
   statement-have : (finds : Finds) (number : ℕ) (kept next : Kept) (command : Command) (step : Step RunFault Kept) → AllHaveTheirAnswers answer kept
       → DoesByViews finds answer number kept command step → step.outcome ≡ Ok next → LeavesAll command next
   statement-have finds number kept next command step all =
       view-step finds answer kept LeavesAll
-      (λ count name written few. all)
-      (λ name written few. each-filter (Has kept.catalogue) (λ (held : HeldView). not (bytes_eq held.0 name.text)) kept.views all)
-      (λ name query bound view is keepable room gives written few.
+      (λ count name written. all)
+      (λ name written. each-filter (Has kept.catalogue) (λ (held : HeldView). not (bytes_eq held.0 name.text)) kept.views all)
+      (λ name query bound view is keepable room gives written.
       each-push (Has kept.catalogue) kept.views (name.text, view) all
-      (made-has answer kept.catalogue bound view (bound-well kept.catalogue query bound written few.0 few.1 is) keepable gives))
-      (λ made own catalogue is does ends written few.
+      (made-has answer kept.catalogue bound view (bound-well kept.catalogue query bound written is) keepable gives))
+      (λ made own catalogue is does ends written.
       all-still kept.catalogue catalogue kept.views (grows-step answer kept.catalogue finds made own catalogue written does ends)
       (sizes-same kept.catalogue catalogue (keeps-step answer kept.catalogue finds made own is does catalogue ends)) all)
-      (λ table rows own catalogue views does ends gives written few.
+      (λ table rows own catalogue views does ends gives written.
       let grows = grows-step answer kept.catalogue finds (Insert table rows) own catalogue written does ends in
       let leads = asked-well answer catalogue (flat_map (growth_questions catalogue) kept.views) (map (grown_view answer catalogue) kept.views) views gives in
       subst (AllHave catalogue) leads.same (all-grown kept.catalogue catalogue kept.views grows all leads.good))
       number command step next
 
   -- and so it goes on
-  pub lead-have : (finds : Finds) (commands : List Command) (state later : ViewState) → AreWritten commands → HaveNumbersInDeclares commands → AllHaveTheirAnswers answer state.kept
+  pub lead-have : (finds : Finds) (commands : List Command) (state later : ViewState) → AreWritten commands → AllHaveTheirAnswers answer state.kept
       → LeadsByViews finds answer state commands later → AllHaveTheirAnswers answer later.kept
-  lead-have finds [] state later written few all leads = subst (λ (s : ViewState). AllHaveTheirAnswers answer s.kept) (sym leads) all
-  lead-have finds (command ∷ rest) state later written few all leads =
+  lead-have finds [] state later written all leads = subst (λ (s : ViewState). AllHaveTheirAnswers answer s.kept) (sym leads) all
+  lead-have finds (command ∷ rest) state later written all leads =
       let does = leads.2 in
       let ends = numbered-ok state.number does.0 leads.0 (subst (λ (s : Step RunFault ViewState). s.outcome ≡ Ok leads.0) does.2 leads.3) in
-      lead-have finds rest leads.0 later written.1 few.1
-      (statement-have finds state.number state.kept leads.0.kept command does.0 all does.1 ends written.0 few.0) leads.4
+      lead-have finds rest leads.0 later written.1
+      (statement-have finds state.number state.kept leads.0.kept command does.0 all does.1 ends written.0) leads.4

@@ -2,6 +2,7 @@ pub mod Worked
 pub mod WorkedScans
 pub mod FeedFacts
 pub mod WordFacts
+pub mod NumberedFacts
 pub mod EachFacts
 pub mod RunFacts
 pub mod ScanFacts
@@ -24,6 +25,7 @@ pub mod ViewLeft
 pub mod SizeFacts
 pub mod HoldSteps
 pub mod FetchSteps
+pub mod PutSteps
 pub mod LaterBinding
 pub mod DeclaredFacts
 pub mod SelectSteps

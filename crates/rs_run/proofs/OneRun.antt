@@ -27,15 +27,16 @@ use Rattle.rs_statement.specs.Steps.{Run}
 use Rattle.rs_statement.specs.Steps as statement
 use Rattle.rs_events.specs.Run as events
 use Rattle.rs_events.specs.Sequence.{Step}
-use Rattle.rs_catalog.specs.Catalog.{CatalogDef}
+use Rattle.rs_catalog.specs.Catalog.{CatalogDef, empty}
 use Rattle.rs_statement.specs.declared.fault.Fault.{Fault}
 use Rattle.rs_statement.specs.Statements.{Does}
 use Rattle.rs_events.specs.Run.{behind, fails, fetch_then, with_fault}
 use Rattle.rs_run.specs.Generated.{finds_generated, unfetched}
 use Rattle.rs_run.specs.Running.{IsFormRun, IsRun, IsRunOf, OfForm}
-use Rattle.rs_run.specs.Threshold.{DoesByScan, DoesNext, ScanState, ScansRun, counted_step, first_statement}
+use Rattle.rs_run.specs.Numbered.{DoesNext, first_statement}
+use Rattle.rs_run.specs.Threshold.{DoesByScan, ScansRun}
 use Rattle.rs_run.specs.Told.{told_step}
-use Rattle.rs_run.specs.Viewing.{DoesByViews, DoesKept, DoesNextByViews, Kept, ViewState, ViewsRun, beside_views, first_view_statement, joined_step, numbered_step}
+use Rattle.rs_run.specs.Viewing.{DoesByViews, DoesKept, Kept, ViewsRun, beside_views, first_view_statement, joined_step}
 use Rattle.rs_run.specs.declared.fault.RunFault.{RunFault}
 use Rattle.rs_run.specs.Faults.{WordsRun}
 use Rattle.rs_run.specs.declared.fault.RunFault.TheVariants.{Statement}
@@ -45,6 +46,7 @@ use Rattle.rs_statement.specs.declared.sampling.Sampling.TheVariants.{ByScores}
 use Rattle.rs_statement.specs.Session.{StatementsRun}
 use Rattle.rs_events.proofs.OneRun.{OneFile, RunOf-one}
 use Rattle.rs_statement.proofs.OneStep.{Does-one, Statements-one}
+use Rattle.rs_run.proofs.NumberedFacts.{DoesNext-one}
 
 -- a script has one list of tokens at most, and isn't refused by the lexer where it has one
 HasTokens-one : (script : List ℕ) (a b : List Token) → HasTokens script a → HasTokens script b → a ≡ b
@@ -130,11 +132,6 @@ DoesByScan-one finds one answer number catalogue command a b p q = go command p 
   go (Explain query) p q = p ∙ sym q
   go (ExplainAnalyze query) p q = p ∙ sym q
 
-DoesNext-one : (finds : Finds) → OneFile finds → (answer : Answering) (state : ScanState) (command : Command) (a b : Step RunFault ScanState)
-    → DoesNext finds answer state command a → DoesNext finds answer state command b → a ≡ b
-DoesNext-one finds one answer state command a b p q =
-    p.2 ∙ ap (counted_step state.number) (DoesByScan-one finds one answer state.number state.catalogue command p.0 q.0 p.1 q.1) ∙ sym q.2
-
 -- and where they are kept as views
 DoesKept-one : (finds : Finds) → OneFile finds → (answer : Answering) (kept : Kept) (command : Command) (a b : statement.Step Kept)
     → DoesKept finds answer kept command a → DoesKept finds answer kept command b → a ≡ b
@@ -175,11 +172,6 @@ DoesByViews-one finds one answer number kept command a b p q = go command p q wh
   go (Explain query) p q = p ∙ sym q
   go (ExplainAnalyze query) p q = p ∙ sym q
 
-DoesNextByViews-one : (finds : Finds) → OneFile finds → (answer : Answering) (state : ViewState) (command : Command) (a b : Step RunFault ViewState)
-    → DoesNextByViews finds answer state command a → DoesNextByViews finds answer state command b → a ≡ b
-DoesNextByViews-one finds one answer state command a b p q =
-    p.2 ∙ ap (numbered_step state.number) (DoesByViews-one finds one answer state.number state.kept command p.0 q.0 p.1 q.1) ∙ sym q.2
-
 -- so words of a form have one run at most
 IsFormRun-one : (finds : Finds) → OneFile finds → (answer : Answering) (form : Form) (run other : WordsRun) → IsFormRun finds answer form run → IsFormRun finds answer form other → run ≡ other
 IsFormRun-one finds one answer form run other p q = go form p q where
@@ -193,14 +185,14 @@ IsFormRun-one finds one answer form run other p q = go form p q where
   go (RunGenerated number rows) p q = told (RunGenerated number rows) p q
   go (Threshold name) p q =
       ScriptRuns-one Statement (ScansRun finds answer)
-      (λ commands a b p q. RunOf-one (DoesNext finds answer) (λ state command a b p q. DoesNext-one finds one answer state command a b p q) first_statement commands a b p q)
+      (λ commands a b p q. RunOf-one (DoesNext (DoesByScan finds answer)) (DoesNext-one (DoesByScan finds answer) (DoesByScan-one finds one answer)) (first_statement empty) commands a b p q)
       finds one name run other p q
   go (Feed words) p q = p.2 ∙ ap (with_fault (word_fault words.left words.right)) (one-run pairs_run finds one words p.0 q.0 p.1 q.1) ∙ sym q.2
   go (Certify words) p q = p.2 ∙ ap (with_fault (word_fault words.left words.right)) (one-run joined_cert_run finds one words p.0 q.0 p.1 q.1) ∙ sym q.2
   go (Check file) p q = p.2 ∙ ap (with_fault (word_fault file file)) (IsCheckRun-one finds one file p.0 q.0 p.1 q.1) ∙ sym q.2
   go (Views name) p q =
       ScriptRuns-one Statement (ViewsRun finds answer)
-      (λ commands a b p q. RunOf-one (DoesNextByViews finds answer) (λ state command a b p q. DoesNextByViews-one finds one answer state command a b p q) first_view_statement commands a b p q)
+      (λ commands a b p q. RunOf-one (DoesNext (DoesByViews finds answer)) (DoesNext-one (DoesByViews finds answer) (DoesByViews-one finds one answer)) first_view_statement commands a b p q)
       finds one name run other p q
 
 pub IsRun-one : (finds : Finds) → OneFile finds → (answer : Answering) (words : List (List ℕ)) (run other : WordsRun) → IsRun finds answer words run → IsRun finds answer words other → run ≡ other

@@ -13,6 +13,7 @@ use Rattle.rs_query.specs.declared.query.Query.TheVariants.{One, Set}
 use Rattle.rs_plain.specs.Plain.{plain_faults, questions_of}
 use Rattle.rs_plain.specs.declared.fault.PlainFault.{PlainFault}
 use Rattle.rs_view.specs.Fresh.{whole_view}
+use Rattle.rs_view.specs.Views.{rows_in}
 use Rattle.rs_value.specs.Text.{text_of}
 use Rattle.rs_value.specs.declared.text.TextFault.{TextFault}
 use Rattle.rs_value.specs.declared.text.TextFault.TheVariants as text
@@ -36,16 +37,17 @@ use Rattle.rs_statement.specs.Steps.{Run}
 use Rattle.rs_events.specs.Run.{fetch_then, with_fault}
 use Rattle.rs_run.specs.Generated.{finds_generated}
 use Rattle.rs_run.specs.Running.{IsFormRun, IsRunOf, OfForm}
-use Rattle.rs_run.specs.Threshold.{DoesByScan, DoesNext, ScanState, ScansRun, counted_step, first_statement, scan_for, scan_of, scan_step, scanned_or, scanned_step}
+use Rattle.rs_run.specs.Numbered.{DoesNext, Numbered, first_statement, numbered_step}
+use Rattle.rs_run.specs.Threshold.{DoesByScan, ScansRun, scan_for, scan_of, scan_step, scanned_or, scanned_step}
 use Rattle.rs_run.specs.Told.{told_result, told_step}
 use Rattle.rs_run.specs.Parts.Holding.{IsKept}
 use Rattle.rs_run.specs.Viewing as viewing
-use Rattle.rs_run.specs.Viewing.{DoesByViews, DoesKept, DoesNextByViews, HeldView, Kept, ViewState, ViewsRun, beside_views, declared_step, fetched_rows, first_view_statement, grown_outcome, grown_view, growth_questions, joined_step, made_outcome, made_step, named_step, numbered_step, room_for_view, view_named, viewed_or, viewed_step, without_view}
+use Rattle.rs_run.specs.Viewing.{DoesByViews, DoesKept, HeldView, Kept, ViewsRun, beside_views, declared_step, fetched_rows, first_view_statement, grown_outcome, grown_view, growth_questions, joined_step, made_outcome, made_step, named_step, room_for_view, view_named, viewed_or, viewed_step, without_view}
 use Rattle.rs_run.specs.declared.fault.ScriptWord.TheVariants.{Ta, View}
 use Rattle.rs_value.specs.Results.{◌>>=◌}
 use Rattle.rs_syntax.specs.Syntax.{Ask, Close, Command, CreatePredicate, CreateRankIndex, CreateTable, Declare, Explain, ExplainAnalyze, Insert}
 use Rattle.rs_syntax.specs.Syntax as syntax
-use Rattle.rs_catalog.specs.Catalog.{CatalogDef}
+use Rattle.rs_catalog.specs.Catalog.{CatalogDef, empty}
 use Rattle.rs_bind.specs.Queries.{bound_query, count_of}
 use Rattle.rs_typing.specs.declared.fault.BindFault.{BindFault}
 use Rattle.rs_typing.specs.declared.fault.BindFault.TheVariants as bind
@@ -246,13 +248,15 @@ OwnOutcome-by_scan finds answer number catalogue command step = go command where
   go (CreateRankIndex name table predicate args at) does = told (CreateRankIndex name table predicate args at) tt does
   go (Insert table rows) does = told (Insert table rows) tt does
 
-OwnOutcome-next : (finds : Finds) (answer : Answering) (state : ScanState) (command : Command) (step : Step RunFault ScanState) → DoesNext finds answer state command step → OwnOutcome step.outcome
+-- and so does the step of a number
+OwnOutcome-next : {K : Type 0} (does : ℕ → K → Command → Step RunFault K → Type 0) → ((number : ℕ) (kept : K) (command : Command) (step : Step RunFault K) → does number kept command step → OwnOutcome step.outcome)
+    → (state : Numbered K) (command : Command) (step : Step RunFault (Numbered K)) → DoesNext does state command step → OwnOutcome step.outcome
 unfolding OwnOutcome
-OwnOutcome-next finds answer state command step does =
-    subst (λ (s : Step RunFault ScanState). OwnOutcome s.outcome) (sym does.2)
-    (go does.0.outcome (OwnOutcome-by_scan finds answer state.number state.catalogue command does.0 does.1)) where
-      go : (outcome : Result CatalogDef RunFault) → OwnOutcome outcome → OwnOutcome (counted_step state.number (record { events = does.0.events; outcome = outcome })).outcome
-      go (Ok catalogue) own = tt
+OwnOutcome-next {K} does own state command step next =
+    subst (λ (s : Step RunFault (Numbered K)). OwnOutcome s.outcome) (sym next.2)
+    (go next.0.outcome (own state.number state.kept command next.0 next.1)) where
+      go : (outcome : Result K RunFault) → OwnOutcome outcome → OwnOutcome (numbered_step state.number (record { events = next.0.events; outcome = outcome })).outcome
+      go (Ok kept) own = tt
       go (Err why) own = own
 
 -- the statements of a script whose queries are kept as views: what each step ends with
@@ -329,8 +333,8 @@ Own-view_named name (held ∷ views) = go (bytes_eq held.0 name) (Own-view_named
 Own-fetched : (kept : Kept) (count : ℤ × Span) (name : Name) → Own (fetched_rows kept count name)
 unfolding Own
 Own-fetched kept count name =
-    Own-then (or_bind_fault (count_of count)) (λ wanted. view_named name.text kept.views >>= (λ view. Ok (take wanted view.rows))) (Own-bind (count_of count))
-    (λ wanted. Own-then (view_named name.text kept.views) (λ view. Ok (take wanted view.rows)) (Own-view_named name.text kept.views) (λ view. tt))
+    Own-then (or_bind_fault (count_of count)) (λ wanted. view_named name.text kept.views >>= (λ view. Ok (take wanted (rows_in kept.catalogue view)))) (Own-bind (count_of count))
+    (λ wanted. Own-then (view_named name.text kept.views) (λ view. Ok (take wanted (rows_in kept.catalogue view))) (Own-view_named name.text kept.views) (λ view. tt))
 
 Own-joined : (answer : Answering) (views : List HeldView) (own : statement.Step CatalogDef) → Own own.outcome → Own (joined_step answer views own).outcome
 unfolding Own
@@ -391,16 +395,6 @@ OwnOutcome-by_views finds answer number kept command step = go command where
   go (CreateRankIndex name table predicate args at) does = told (CreateRankIndex name table predicate args at) tt does
   go (Insert table rows) does = told (Insert table rows) tt does
 
-OwnOutcome-next_view : (finds : Finds) (answer : Answering) (state : ViewState) (command : Command) (step : Step RunFault ViewState) → DoesNextByViews finds answer state command step
-    → OwnOutcome step.outcome
-unfolding OwnOutcome
-OwnOutcome-next_view finds answer state command step does =
-    subst (λ (s : Step RunFault ViewState). OwnOutcome s.outcome) (sym does.2)
-    (go does.0.outcome (OwnOutcome-by_views finds answer state.number state.kept command does.0 does.1)) where
-      go : (outcome : Result Kept RunFault) → OwnOutcome outcome → OwnOutcome (numbered_step state.number (record { events = does.0.events; outcome = outcome })).outcome
-      go (Ok kept) own = tt
-      go (Err why) own = own
-
 -- the faults of a run with a form
 OwnFault-told : (form : Form) (fault : Option RunFault) → OwnRun fault → OwnFault (Some form) fault
 unfolding OwnFault OwnRun OwnTold
@@ -435,9 +429,9 @@ form_fault finds answer form run is = go form is where
   go (RunScript name evaluating) is = statements (RunScript name evaluating) is
   go (RunGenerated number rows) is = statements (RunGenerated number rows) is
   go (Threshold name) is = OwnFault-told (Threshold name) run.fault
-      (OwnRun-script finds (ScansRun finds answer) (λ commands run is. OwnRun-of (DoesNext finds answer) (OwnOutcome-next finds answer) first_statement commands run is) name run is)
+      (OwnRun-script finds (ScansRun finds answer) (λ commands run is. OwnRun-of (DoesNext (DoesByScan finds answer)) (OwnOutcome-next (DoesByScan finds answer) (OwnOutcome-by_scan finds answer)) (first_statement empty) commands run is) name run is)
   go (Views name) is = OwnFault-told (Views name) run.fault
-      (OwnRun-script finds (ViewsRun finds answer) (λ commands run is. OwnRun-of (DoesNextByViews finds answer) (OwnOutcome-next_view finds answer) first_view_statement commands run is) name run is)
+      (OwnRun-script finds (ViewsRun finds answer) (λ commands run is. OwnRun-of (DoesNext (DoesByViews finds answer)) (OwnOutcome-next (DoesByViews finds answer) (OwnOutcome-by_views finds answer)) first_view_statement commands run is) name run is)
   go (Feed words) is = OwnFault-told (Feed words) run.fault
       (subst (λ (r : WordsRun). OwnRun r.fault) (sym is.2) (OwnRun-feed words.left words.right is.0.fault (feed-no_put finds words is.0 is.1)))
   go (Certify words) is = OwnFault-told (Certify words) run.fault

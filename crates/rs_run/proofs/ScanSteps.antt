@@ -1,5 +1,5 @@
 -- What the statements of a script did whose queries are answered by scans, from what their parts did.
-use Rattle.std.proofs.Common.{ℕ, ℤ, suc, ◌≡◌, ◌∙◌, List, Some, None, refl, sym, ap, subst, inl, inr}
+use Rattle.std.proofs.Common.{ℕ, ℤ, ◌≡◌, List, Some, None, refl, sym, ap, subst, inl, inr}
 use Rattle.std.specs.Prelude.{IfOk, Option, Result, Ok, Err, option_map}
 use Rattle.rs_value.specs.Answer.{Gives}
 use Rattle.rs_lex.specs.declared.token.Span.{Span}
@@ -17,10 +17,9 @@ use Rattle.rs_query.specs.declared.query.Query.TheVariants.{One}
 use Rattle.rs_ta.specs.Depths.{ScanInput}
 use Rattle.rs_ta.specs.Eligible.{block_input, eligible_indexes}
 use Rattle.rs_events.specs.Environment.{Environment}
-use Rattle.rs_events.specs.Events.{Event}
-use Rattle.rs_outside.specs.Files.{Finds, finds_in}
+use Rattle.rs_outside.specs.Files.{Finds}
 use Rattle.rs_events.specs.Run.{Run, lines_run, with_fault}
-use Rattle.rs_events.specs.Running.{HasDone, Ran, Stepped}
+use Rattle.rs_events.specs.Running.{Ran, Stepped}
 use Rattle.rs_events.specs.Sequence.{Step, run_of, still}
 use Rattle.rs_events.proofs.SteppedFacts.{Stepped-lines, Stepped-no_memory, Stepped-still, step_of}
 use Rattle.rs_events.proofs.ToldFacts.{Ran-told_err, Ran-told_ok}
@@ -31,14 +30,13 @@ use Rattle.rs_statement.specs.Parts.Session.{IsOfNoCursor}
 use Rattle.rs_statement.specs.Statements.{Does}
 use Rattle.rs_statement.specs.Steps as statement
 use Rattle.rs_statement.specs.Steps.{statement_faults}
-use Rattle.rs_outside.proofs.ContentsFacts.{finds-before}
 use Rattle.rs_statement.proofs.StatementFacts.{Does-finds}
 use Rattle.rs_run.specs.declared.fault.RunFault.{RunFault}
 use Rattle.rs_run.specs.declared.fault.RunFault.TheVariants.{NotEligible, Statement}
 use Rattle.rs_run.specs.declared.fault.ScriptWord.TheVariants.{Ta}
 use Rattle.rs_run.specs.Faults.{run_faults}
 use Rattle.rs_run.specs.Parts.Scanning.{Makes}
-use Rattle.rs_run.specs.Threshold.{DoesByScan, DoesNext, ScanState, counted_step, scan_for, scan_lines, scan_of, scan_step, scanned_or}
+use Rattle.rs_run.specs.Threshold.{DoesByScan, scan_for, scan_lines, scan_of, scan_step, scanned_or}
 use Rattle.rs_run.specs.Told.{told_result, told_step}
 use Rattle.rs_run.proofs.RunFacts.{statement-faults}
 
@@ -73,7 +71,7 @@ module _ {S : Type 0} (of : statement.Step S → Type 0) (left : S) (old new : E
   }
 
 -- what a statement does where files hold as much
-DoesByScan-finds : (a b : Finds) → ((name : List ℕ) (there : Option (List ℕ)) → a name there → b name there) → (answer : Answering) (number : ℕ) (catalogue : CatalogDef) (command : Command)
+pub DoesByScan-finds : (a b : Finds) → ((name : List ℕ) (there : Option (List ℕ)) → a name there → b name there) → (answer : Answering) (number : ℕ) (catalogue : CatalogDef) (command : Command)
     (step : Step RunFault CatalogDef) → DoesByScan a answer number catalogue command step → DoesByScan b answer number catalogue command step
 DoesByScan-finds a b more answer number catalogue command step = go command where
   told : (command : Command) → IsTold (Does a answer Plainly catalogue command) step → IsTold (Does b answer Plainly catalogue command) step
@@ -90,39 +88,6 @@ DoesByScan-finds a b more answer number catalogue command step = go command wher
   go (CreatePredicate name params max cost formula) does = told (CreatePredicate name params max cost formula) does
   go (CreateRankIndex name table predicate args at) does = told (CreateRankIndex name table predicate args at) does
   go (Insert table rows) does = told (Insert table rows) does
-
-pub DoesNext-finds : (a b : Finds) → ((name : List ℕ) (there : Option (List ℕ)) → a name there → b name there) → (answer : Answering) (state : ScanState) (command : Command)
-    (step : Step RunFault ScanState) → DoesNext a answer state command step → DoesNext b answer state command step
-DoesNext-finds a b more answer state command step does =
-    (does.0, DoesByScan-finds a b more answer state.number state.catalogue command does.0 does.1, does.2)
-
--- a statement, before the one of the next number, behind events that were done: it does what it does over what was there at first
-run_of-counted : (number : ℕ) (step : Step RunFault CatalogDef) → run_of (counted_step number step) ≡ run_of step
-run_of-counted number step = go step.outcome where
-  go : (outcome : Result CatalogDef RunFault) → run_of (counted_step number (step_of step.events outcome)) ≡ run_of (step_of step.events outcome)
-  go (Ok next) = refl
-  go (Err fault) = refl
-
-pub Stepped-next : (made : List Event) (number next : ℕ) (catalogue left : CatalogDef) (command : Command) (result : Result (Unit {0}) RunFault) (old middle new : Environment) → next ≡ suc number
-    → HasDone made old middle → Stepped run_faults (DoesByScan (finds_in middle.files.contents) middle.scorer.answer number catalogue command) left result middle new
-    → Stepped run_faults (DoesNext (finds_in old.files.contents) old.scorer.answer (record { number = number; catalogue = catalogue }) command) (record { number = next; catalogue = left }) result middle new
-Stepped-next made number next catalogue left command result old middle new is_next has stepped = record {
-  step = counted_step number stepped.step;
-  does = (
-    stepped.step,
-    DoesByScan-finds (finds_in middle.files.contents) (finds_in old.files.contents) (finds-before old.files.contents middle.files.contents has.keeps.files.contents) old.scorer.answer number catalogue command stepped.step
-        (subst (λ answer. DoesByScan (finds_in middle.files.contents) answer number catalogue command stepped.step) has.keeps.scorer.answer stepped.does),
-    refl,
-  );
-  ran = subst (λ (run : Run RunFault). Ran run_faults run result middle new) (sym (run_of-counted number stepped.step)) stepped.ran;
-  leaves = leaves result stepped.leaves;
-} where
-  leaves : (result : Result (Unit {0}) RunFault) → IfOk result (λ done. stepped.step.outcome ≡ Ok left)
-      → IfOk result (λ done. (counted_step number stepped.step).outcome ≡ Ok (record { number = next; catalogue = left }))
-  leaves (Ok done) is =
-      ap (λ (outcome : Result CatalogDef RunFault). (counted_step number (step_of stepped.step.events outcome)).outcome) is
-      ∙ ap (λ (n : ℕ). Ok (record { number = n; catalogue = left })) (sym is_next)
-  leaves (Err fault) is = tt
 
 -- a query that isn't bound, or for which there was no memory
 module _ (answer : Answering) (number : ℕ) (catalogue : CatalogDef) (environment : Environment) where

@@ -13,7 +13,7 @@ use Rattle.rs_bind.specs.Queries.{bound_query, count_of}
 use Rattle.rs_query.specs.declared.query.Query.{Query}
 use Rattle.rs_typing.specs.declared.fault.BindFault.{BindFault}
 use Rattle.rs_view.specs.Holding.{HasItsAnswer, limited}
-use Rattle.rs_view.specs.Views.{ViewDef, most_kept}
+use Rattle.rs_view.specs.Views.{ViewDef, most_kept, rows_in}
 use Rattle.rs_view.proofs.HoldingFacts.{limited-has}
 use Rattle.rs_view.proofs.TopFacts.{keepable-limited, same-gives}
 use Rattle.rs_events.specs.Events.{puts}
@@ -23,12 +23,12 @@ use Rattle.rs_statement.specs.declared.evaluating.Evaluating.TheVariants.{Plainl
 use Rattle.rs_statement.specs.Statements.{or_bind_fault, query_outcome, query_step, refused_or, select_step}
 use Rattle.rs_statement.specs.Steps as statement
 use Rattle.rs_run.specs.declared.fault.RunFault.{RunFault}
-use Rattle.rs_run.specs.NumbersIn.{HaveNumbersInDeclares}
 use Rattle.rs_run.specs.Reached.{AllHaveTheirAnswers, AreNotClosed, LeadsByViews, PutsAsSelect, most_written, with_limit}
 use Rattle.rs_run.specs.Viewing.{Kept, ViewState, view_named}
 use Rattle.rs_run.proofs.FetchSteps.{fetch-plain, named-has, plain-puts}
 use Rattle.rs_run.proofs.DeclaredFacts.{HoldsQuery, declare-holds, lead-holds, lead-parts}
-use Rattle.rs_run.proofs.HoldSteps.{lead-have, numbered-ok}
+use Rattle.rs_run.proofs.HoldSteps.{lead-have}
+use Rattle.rs_run.proofs.NumberedFacts.{numbered-ok}
 use Rattle.rs_run.proofs.LaterBinding.{IsLater, bound-later, bound-most, later-same, later-step, later-steps}
 use Rattle.rs_run.proofs.ViewLeft.{view-step}
 
@@ -55,7 +55,7 @@ module _ (answer : Answering) where
   select-plain here kept query limit count name wanted view later has is most number found =
       let m = min wanted (most_kept view.query) in
       let fewer = limited m view.query in
-      let rows = take wanted view.rows in
+      let rows = take wanted (rows_in kept.catalogue view) in
       let text = with_limit limit query in
       let bound = bound-later here kept.catalogue later limit m most query view.query has.keepable is in
       let gives = same-gives answer kept.catalogue fewer bound.other rows (keepable-limited view.query m has.keepable) bound.same (limited-has answer kept.catalogue view wanted has) in
@@ -71,10 +71,10 @@ module _ (answer : Answering) where
 
   -- behind the DECLARE, and statements that don't close it
   pub fetch-select : (finds : Finds) (before after : List Command) (state later : ViewState) (declared name : Name) (query : syntax.Query) (limit count : ℤ × Span) (most wanted : ℕ)
-      → AreWritten (before ++ Declare declared query ∷ after) → HaveNumbersInDeclares (before ++ Declare declared query ∷ after) → AllHaveTheirAnswers answer state.kept
+      → AreWritten (before ++ Declare declared query ∷ after) → AllHaveTheirAnswers answer state.kept
       → LeadsByViews finds answer state (before ++ Declare declared query ∷ after) later → declared.text ≡ name.text → AreNotClosed name.text after
       → most_written query ≡ Ok most → count_of count ≡ Ok wanted → count_of limit ≡ Ok (min wanted most) → PutsAsSelect answer later.kept count name (with_limit limit query)
-  fetch-select finds before after state later declared name query limit count most wanted written few all leads same apart is_most number is_limit =
+  fetch-select finds before after state later declared name query limit count most wanted written all leads same apart is_most number is_limit =
       let parts = lead-parts answer finds before (Declare declared query ∷ after) state later leads in
       let here = parts.here.kept in
       let does = parts.second.2 in
@@ -83,7 +83,7 @@ module _ (answer : Answering) where
       let made = declare-holds answer finds parts.here.number here next.kept declared query does.0 does.1 ends in
       let named = subst (λ (text : List ℕ). HoldsQuery text made.bound next.kept.views) same made.holds in
       let held = lead-holds answer finds name.text made.bound after next later apart named parts.second.4 in
-      let has = named-has answer later.kept.catalogue name.text later.kept.views held.view (lead-have answer finds (before ++ Declare declared query ∷ after) state later written few all leads) held.found in
+      let has = named-has answer later.kept.catalogue name.text later.kept.views held.view (lead-have answer finds (before ++ Declare declared query ∷ after) state later written all leads) held.found in
       let written_behind = each-behind IsWritten before (Declare declared query ∷ after) written in
       let most_is : most ≡ most_kept held.view.query = (let own = bound-most here.catalogue query made.bound made.binds in let same_most : most ≡ most_kept made.bound = cc in same_most ∙ ap most_kept (sym held.same)) in
       select-plain here.catalogue later.kept query limit count name wanted held.view

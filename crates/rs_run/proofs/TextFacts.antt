@@ -2,7 +2,7 @@
 use Rattle.std.proofs.Common.{ℕ, ◌≡◌, ◌∙◌, ◌≤◌, List, [], ◌∷◌, refl, sym, ap, subst, inl, inr}
 use Rattle.std.specs.Prelude.{IfErr, Option, Some, None, option_map, Result, Ok, Err, IsErr, IsErrAnd, length, ◌⊎◌}
 use Rattle.rs_value.specs.Outside.{Outside}
-use Rattle.rs_outside.specs.Files.{FilesState, finds_in}
+use Rattle.rs_outside.specs.Files.{FilesState, Finds, finds_in}
 use Rattle.rs_lex.specs.Spelling as spelling
 use Rattle.rs_lex.specs.Spelling.{Spells, most_tokens}
 use Rattle.rs_lex.specs.declared.fault.LexFault.{LexFault}
@@ -26,7 +26,7 @@ use Rattle.rs_statement.specs.Parts.Steps.{FetchesFile}
 use Rattle.rs_run.specs.declared.fault.RunFault.TheVariants.{Statement}
 use Rattle.rs_run.specs.Faults.{run_faults}
 use Rattle.rs_run.specs.Parts.Read.{IsSource}
-use Rattle.rs_run.specs.Parts.Script.{IsRefused, IsScriptRead, ScriptRead}
+use Rattle.rs_run.specs.Parts.Script.{IsRefused, IsScriptRead, ScriptRead, TellScript}
 use Rattle.rs_run.specs.Plain.{HasStatements, HasTokens, ScriptRuns, TextRuns, as_it_is, read, runs, unlexed, unparsed, unread}
 use Rattle.rs_events.specs.Events.{Event, Fetch}
 use Rattle.rs_statement.specs.Steps.{Run, statement_faults}
@@ -115,6 +115,11 @@ TextRuns-turn told a b turn script _ (unlexed fault refuses) = unlexed fault ref
 TextRuns-turn told a b turn script _ (unparsed tokens fault lexed refuses) = unparsed tokens fault lexed refuses
 TextRuns-turn told a b turn script run (runs commands _ made is) = runs commands run made (turn commands run is)
 
+pub ScriptRuns-turn : {F : Type 0} (told : Fault → F) (finds : Finds) (a b : List Command → events.Run F → Type 0) → ((commands : List Command) (run : events.Run F) → a commands run → b commands run)
+    → (name : List ℕ) (run : events.Run F) → ScriptRuns told finds a name run → ScriptRuns told finds b name run
+ScriptRuns-turn told finds a b turn name _ (unread there fault found is) = unread there fault found is
+ScriptRuns-turn told finds a b turn name _ (read there script run found is text) = read there script run found is (TextRuns-turn told a b turn script run text)
+
 -- a script that was read is made of its statements
 pub script-made : (read : Option ScriptRead) (text : List ℕ) (statements : List syntax_statement.Statement) → option_map (λ (r : ScriptRead). r.text) read ≡ Some text
     → ((r : ScriptRead) → read ≡ Some r → statements ≡ r.statements) → ((r : ScriptRead) → read ≡ Some r → IsScriptRead r) → HasStatements text (commands_of statements)
@@ -164,11 +169,7 @@ FetchesFile-told {F} {A} told memory Tells name memory_is tell fault gives old n
       }))
       go (inr fetched) = inr (record { fetched = fetched.fetched; answers = elim fetched.answers [ inl e ↦ inl (e, refl) | inr e ↦ inr (none e) ] })
 
--- with which faults a script is run: those of statements, told so
-pub record TellScript {F : Type 0} (told : Fault → F) (faults : HaltFaults F) : Type 0 where
-  pub memory : told Memory ≡ faults.memory
-  pub failed_fetch : (name : List ℕ) (fault : Fault) → statement_faults.IsFailedFetch name fault → faults.IsFailedFetch name (told fault)
-
+-- the faults of statements as they are, and as those of words
 pub tells-as_it_is : TellScript as_it_is statement_faults
 tells-as_it_is = record { memory = refl; failed_fetch = λ name fault is. is }
 

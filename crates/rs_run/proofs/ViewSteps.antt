@@ -1,5 +1,5 @@
 -- What the statements of a script did whose queries are kept as views, from what their parts did.
-use Rattle.std.proofs.Common.{ℕ, ℤ, suc, ◌≡◌, ◌∙◌, List, Bool, true, false, refl, sym, ap, subst, inl, inr}
+use Rattle.std.proofs.Common.{ℕ, ℤ, ◌≡◌, ◌∙◌, List, Bool, true, false, refl, sym, ap, subst, inl, inr}
 use Rattle.std.specs.Prelude.{IfOk, Option, Result, Ok, Err, if◌then◌else◌}
 use Rattle.rs_value.specs.Answer.{Gives}
 use Rattle.rs_value.specs.Results.{◌>>=◌}
@@ -17,12 +17,11 @@ use Rattle.rs_query.specs.declared.query.Query.{Query}
 use Rattle.rs_query.specs.declared.query.Query.TheVariants.{One, Set}
 use Rattle.rs_view.specs.Views.{IsKeepable}
 use Rattle.rs_events.specs.Environment.{Environment}
-use Rattle.rs_events.specs.Events.{Event}
-use Rattle.rs_outside.specs.Files.{Finds, finds_in}
+use Rattle.rs_outside.specs.Files.{Finds}
 use Rattle.rs_events.specs.Run.{Run}
-use Rattle.rs_events.specs.Running.{HasDone, Ran, Stepped}
+use Rattle.rs_events.specs.Running.{Ran, Stepped}
 use Rattle.rs_events.specs.Sequence.{Step, run_of, still}
-use Rattle.rs_events.proofs.SteppedFacts.{Stepped-map, Stepped-no_memory, Stepped-still, step_of}
+use Rattle.rs_events.proofs.SteppedFacts.{Stepped-map, Stepped-no_memory, Stepped-still}
 use Rattle.rs_statement.specs.declared.evaluating.Evaluating.TheVariants.{Plainly}
 use Rattle.rs_statement.specs.declared.fault.Fault.{Fault}
 use Rattle.rs_statement.specs.declared.fault.Fault.TheVariants.{Memory}
@@ -32,7 +31,6 @@ use Rattle.rs_statement.specs.Inserts.{insert_step}
 use Rattle.rs_statement.specs.Statements.{Does, or_bind_fault, refused_or}
 use Rattle.rs_statement.specs.Steps as statement
 use Rattle.rs_statement.specs.Steps.{statement_faults}
-use Rattle.rs_outside.proofs.ContentsFacts.{finds-before}
 use Rattle.rs_statement.proofs.StatementFacts.{Does-finds}
 use Rattle.rs_run.specs.declared.fault.RunFault.{RunFault}
 use Rattle.rs_run.specs.declared.fault.RunFault.TheVariants.{NotEligible, Statement}
@@ -40,7 +38,7 @@ use Rattle.rs_run.specs.declared.fault.ScriptWord.TheVariants.{View}
 use Rattle.rs_run.specs.Faults.{run_faults}
 use Rattle.rs_run.specs.Parts.Holding.{IsKept}
 use Rattle.rs_run.specs.Told.{told_step}
-use Rattle.rs_run.specs.Viewing.{DoesByViews, DoesKept, DoesNextByViews, HeldView, Kept, ViewState, beside_views, joined_step, named_step, numbered_step, viewed_or, viewed_step}
+use Rattle.rs_run.specs.Viewing.{DoesByViews, DoesKept, HeldView, Kept, beside_views, joined_step, named_step, viewed_or, viewed_step}
 use Rattle.rs_run.proofs.ScanSteps.{IsTold}
 
 -- what a statement does where files hold as much
@@ -64,7 +62,7 @@ DoesKept-finds a b more answer kept command step is does = go command is does wh
   go (Explain query) is does = absurd is
   go (ExplainAnalyze query) is does = absurd is
 
-DoesByViews-finds : (a b : Finds) → ((name : List ℕ) (there : Option (List ℕ)) → a name there → b name there) → (answer : Answering) (number : ℕ) (kept : Kept) (command : Command)
+pub DoesByViews-finds : (a b : Finds) → ((name : List ℕ) (there : Option (List ℕ)) → a name there → b name there) → (answer : Answering) (number : ℕ) (kept : Kept) (command : Command)
     (step : Step RunFault Kept) → DoesByViews a answer number kept command step → DoesByViews b answer number kept command step
 DoesByViews-finds a b more answer number kept command step = go command where
   told : (command : Command) → IsKept command → IsTold (DoesKept a answer kept command) step → IsTold (DoesKept b answer kept command) step
@@ -81,39 +79,6 @@ DoesByViews-finds a b more answer number kept command step = go command where
   go (CreatePredicate name params max cost formula) does = told (CreatePredicate name params max cost formula) tt does
   go (CreateRankIndex name table predicate args at) does = told (CreateRankIndex name table predicate args at) tt does
   go (Insert table rows) does = told (Insert table rows) tt does
-
-pub DoesNextByViews-finds : (a b : Finds) → ((name : List ℕ) (there : Option (List ℕ)) → a name there → b name there) → (answer : Answering) (state : ViewState) (command : Command)
-    (step : Step RunFault ViewState) → DoesNextByViews a answer state command step → DoesNextByViews b answer state command step
-DoesNextByViews-finds a b more answer state command step does =
-    (does.0, DoesByViews-finds a b more answer state.number state.kept command does.0 does.1, does.2)
-
--- a statement, before the one of the next number, behind events that were done: it does what it does over what was there at first
-run_of-numbered : (number : ℕ) (step : Step RunFault Kept) → run_of (numbered_step number step) ≡ run_of step
-run_of-numbered number step = go step.outcome where
-  go : (outcome : Result Kept RunFault) → run_of (numbered_step number (step_of step.events outcome)) ≡ run_of (step_of step.events outcome)
-  go (Ok next) = refl
-  go (Err fault) = refl
-
-pub Stepped-next_view : (made : List Event) (number next : ℕ) (kept left : Kept) (command : Command) (result : Result (Unit {0}) RunFault) (old middle new : Environment) → next ≡ suc number
-    → HasDone made old middle → Stepped run_faults (DoesByViews (finds_in middle.files.contents) middle.scorer.answer number kept command) left result middle new
-    → Stepped run_faults (DoesNextByViews (finds_in old.files.contents) old.scorer.answer (record { number = number; kept = kept }) command) (record { number = next; kept = left }) result middle new
-Stepped-next_view made number next kept left command result old middle new is_next has stepped = record {
-  step = numbered_step number stepped.step;
-  does = (
-    stepped.step,
-    DoesByViews-finds (finds_in middle.files.contents) (finds_in old.files.contents) (finds-before old.files.contents middle.files.contents has.keeps.files.contents) old.scorer.answer number kept command stepped.step
-        (subst (λ answer. DoesByViews (finds_in middle.files.contents) answer number kept command stepped.step) has.keeps.scorer.answer stepped.does),
-    refl,
-  );
-  ran = subst (λ (run : Run RunFault). Ran run_faults run result middle new) (sym (run_of-numbered number stepped.step)) stepped.ran;
-  leaves = leaves result stepped.leaves;
-} where
-  leaves : (result : Result (Unit {0}) RunFault) → IfOk result (λ done. stepped.step.outcome ≡ Ok left)
-      → IfOk result (λ done. (numbered_step number stepped.step).outcome ≡ Ok (record { number = next; kept = left }))
-  leaves (Ok done) is =
-      ap (λ (outcome : Result Kept RunFault). (numbered_step number (step_of stepped.step.events outcome)).outcome) is
-      ∙ ap (λ (n : ℕ). Ok (record { number = n; kept = left })) (sym is_next)
-  leaves (Err fault) is = tt
 
 -- a DECLARE whose query isn't bound, or for which there was no memory
 module _ (answer : Answering) (number : ℕ) (name : List ℕ) (kept : Kept) where

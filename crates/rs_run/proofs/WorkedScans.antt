@@ -14,7 +14,8 @@ use Rattle.rs_run.specs.declared.fault.RunFault.TheVariants.{NotEligible}
 use Rattle.rs_run.specs.declared.fault.ScriptWord.TheVariants.{Ta}
 use Rattle.rs_run.specs.declared.status.Status.TheVariants as status
 use Rattle.rs_run.specs.Faults.{run_fault_line, status_of}
-use Rattle.rs_run.specs.Threshold.{DoesNext, access_line, scan_asks}
+use Rattle.rs_run.specs.Numbered.{DoesNext}
+use Rattle.rs_run.specs.Threshold.{DoesByScan, access_line, scan_asks}
 use Rattle.rs_run.specs.Words.{Threshold, form_of}
 
 -- the words `ta s`, and no more of them
@@ -70,5 +71,5 @@ all_rows = refl
 
 -- a statement of another form ends the run with its number, whatever it names
 closes : (finds : Finds) (answer : Answering) (catalogue : CatalogDef) (name : Name)
-    → DoesNext finds answer (record { number = 3; catalogue = catalogue }) (Close name) (still (Err (NotEligible Ta 3)))
+    → DoesNext (DoesByScan finds answer) (record { number = 3; kept = catalogue }) (Close name) (still (Err (NotEligible Ta 3)))
 closes finds answer catalogue name = (still (Err (NotEligible Ta 3)), refl, refl)

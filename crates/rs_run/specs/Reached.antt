@@ -22,7 +22,8 @@ use Rattle.rs_statement.specs.Session.{State, nothing}
 use Rattle.rs_statement.specs.Statements.{query_step, select_step}
 use Rattle.rs_run.specs.declared.fault.RunFault.{RunFault}
 use Rattle.rs_run.specs.Later.{LeadsTo}
-use Rattle.rs_run.specs.Viewing.{DoesNextByViews, HeldView, Kept, ViewState, fetch_step}
+use Rattle.rs_run.specs.Numbered.{DoesNext}
+use Rattle.rs_run.specs.Viewing.{DoesByViews, HeldView, Kept, ViewState, fetch_step}
 
 -- a fetch that may find anything: any bytes, or no file
 abbrev pub anything : Finds
@@ -32,7 +33,7 @@ anything name there = Unit {0}
 abbrev pub LeadsByViews : Finds → Answering → ViewState → List Command → ViewState → Type 0
 LeadsByViews finds answer state [] later = later ≡ state
 LeadsByViews finds answer state (command ∷ rest) later =
-    (next : ViewState) × (step : Step RunFault ViewState) × DoesNextByViews finds answer state command step × (step.outcome ≡ Ok next) × LeadsByViews finds answer next rest later
+    (next : ViewState) × (step : Step RunFault ViewState) × DoesNext (DoesByViews finds answer) state command step × (step.outcome ≡ Ok next) × LeadsByViews finds answer next rest later
 
 -- each held view has the first rows of its query's answer over the tables as they are
 abbrev pub AllHaveTheirAnswers : Answering → Kept → Type 0

@@ -1,5 +1,5 @@
 -- The word `ta`: the statements of a script, whose queries are answered by threshold scans.
-use Rattle.std.specs.Prelude.{ℕ, suc, ◌≡◌, ◌*◌, List, [], ◌∷◌, ◌++◌, length, Option, Some, None, option_map, Result, Ok, Err, codes}
+use Rattle.std.specs.Prelude.{ℕ, ◌≡◌, ◌*◌, List, [], ◌∷◌, ◌++◌, length, Option, Some, None, option_map, Result, Ok, Err, codes}
 use Rattle.std.specs.Fmt.{decimal}
 use Rattle.rs_syntax.specs.Syntax.{Ask, Close, Command, Declare, Explain, ExplainAnalyze, Fetch}
 use Rattle.rs_syntax.specs.Syntax as syntax
@@ -14,7 +14,7 @@ use Rattle.rs_ta.specs.Depths.{ScanInput, answers, depth, lookups, sights}
 use Rattle.rs_ta.specs.Eligible.{block_input, eligible_indexes}
 use Rattle.rs_ta.specs.Lists.{total}
 use Rattle.rs_outside.specs.Files.{Finds}
-use Rattle.rs_events.specs.Sequence.{RunOf, Step, lines_step, still}
+use Rattle.rs_events.specs.Sequence.{Step, lines_step, still}
 use Rattle.rs_statement.specs.declared.evaluating.Evaluating.TheVariants.{Plainly}
 use Rattle.rs_statement.specs.declared.fault.Fault.{Fault}
 use Rattle.rs_statement.specs.Lines.{rank_lines}
@@ -25,6 +25,7 @@ use Rattle.rs_run.specs.declared.fault.RunFault.{RunFault}
 use Rattle.rs_run.specs.declared.fault.RunFault.TheVariants.{NotEligible, Statement}
 use Rattle.rs_run.specs.declared.fault.ScriptWord.TheVariants.{Ta}
 use Rattle.rs_run.specs.Faults.{WordsRun}
+use Rattle.rs_run.specs.Numbered.{NumberedRun, first_statement}
 use Rattle.rs_run.specs.Told.{told_step}
 
 -- what the scan of a bound query is over; there is none where the query isn't one block that is eligible
@@ -77,27 +78,6 @@ DoesByScan finds answer number catalogue (ExplainAnalyze query) step = step ≡ 
 DoesByScan finds answer number catalogue command step =
     (own : statement.Step CatalogDef) × Does finds answer Plainly catalogue command own × (step ≡ told_step Statement own)
 
--- the number of the next statement, and what the script has made so far
-pub record ScanState : Type 0 where
-  pub number : ℕ
-  pub catalogue : CatalogDef
-
--- a script starts with its first statement and with nothing
-abbrev pub first_statement : ScanState
-first_statement = record { number = 1; catalogue = empty }
-
--- what a step leaves, before the statement of the next number
-abbrev pub counted_step : ℕ → Step RunFault CatalogDef → Step RunFault ScanState
-counted_step number step = record { events = step.events; outcome = of step.outcome } where
-  of : Result CatalogDef RunFault → Result ScanState RunFault
-  of (Ok catalogue) = Ok (record { number = suc number; catalogue = catalogue })
-  of (Err fault) = Err fault
-
--- what the next statement does, by its number
-abbrev pub DoesNext : Finds → Answering → ScanState → Command → Step RunFault ScanState → Type 0
-DoesNext finds answer state command step =
-    (own : Step RunFault CatalogDef) × DoesByScan finds answer state.number state.catalogue command own × (step ≡ counted_step state.number own)
-
 -- the run of the statements of a script, from nothing on
 abbrev pub ScansRun : Finds → Answering → List Command → WordsRun → Type 0
-ScansRun finds answer commands run = RunOf (DoesNext finds answer) first_statement commands run
+ScansRun finds answer commands run = NumberedRun (DoesByScan finds answer) (first_statement empty) commands run

@@ -1,5 +1,5 @@
 -- The word `view`: a script whose queries are kept as views, which grow as rows join their tables.
-use Rattle.std.specs.Prelude.{ℕ, ℤ, ◌≡◌, not, List, [], ◌∷◌, ◌++◌, map, take, suc, Result, Ok, Err, if◌then◌else◌}
+use Rattle.std.specs.Prelude.{ℕ, ℤ, ◌≡◌, not, List, [], ◌∷◌, ◌++◌, map, take, Result, Ok, Err, if◌then◌else◌}
 use Rattle.std.specs.List.{filter, flat_map}
 use Rattle.std.specs.Str.{bytes_eq}
 use Rattle.rs_value.specs.Results.{◌>>=◌}
@@ -19,9 +19,9 @@ use Rattle.rs_query.specs.declared.query.Query.TheVariants.{One, Set}
 use Rattle.rs_plain.specs.Plain.{plain_faults}
 use Rattle.rs_plain.specs.declared.fault.PlainFault.{PlainFault}
 use Rattle.rs_view.specs.Fresh.{fresh_questions, making, whole_view}
-use Rattle.rs_view.specs.Views.{ViewDef}
+use Rattle.rs_view.specs.Views.{ViewDef, rows_in}
 use Rattle.rs_outside.specs.Files.{Finds}
-use Rattle.rs_events.specs.Sequence.{RunOf, Step, inquiry_step, lines_step, still, then_step}
+use Rattle.rs_events.specs.Sequence.{Step, inquiry_step, lines_step, still, then_step}
 use Rattle.rs_statement.specs.declared.evaluating.Evaluating.TheVariants.{Plainly}
 use Rattle.rs_statement.specs.declared.fault.Fault.{Fault}
 use Rattle.rs_statement.specs.declared.fault.Fault.TheVariants.{Session}
@@ -34,6 +34,7 @@ use Rattle.rs_run.specs.declared.fault.RunFault.{RunFault}
 use Rattle.rs_run.specs.declared.fault.RunFault.TheVariants.{NotEligible, Statement}
 use Rattle.rs_run.specs.declared.fault.ScriptWord.TheVariants.{View}
 use Rattle.rs_run.specs.Faults.{WordsRun}
+use Rattle.rs_run.specs.Numbered.{Numbered, NumberedRun, first_statement}
 use Rattle.rs_run.specs.Told.{told_step}
 
 -- a view that a script holds, behind its name
@@ -112,12 +113,12 @@ joined_step answer views own = of own.outcome where
   of (Ok catalogue) = then_step own (grown_step answer catalogue views)
   of (Err fault) = record { events = own.events; outcome = Err fault }
 
--- the first rows of a view, at most as many as a FETCH says. Its number counts first, and then its name
+-- the first rows of a view with their output values, at most as many as a FETCH says. Its number counts first, and then its name
 abbrev pub fetched_rows : Kept → ℤ × Span → Name → Result (List Answer) Fault
 fetched_rows kept count name = do
   wanted ← or_bind_fault (count_of count)
   view ← view_named name.text kept.views
-  Ok (take wanted view.rows)
+  Ok (take wanted (rows_in kept.catalogue view))
 
 -- each FETCH ranks its rows from 1 on, and calls nobody
 abbrev pub fetch_step : Kept → ℤ × Span → Name → statement.Step Kept
@@ -154,26 +155,13 @@ DoesByViews finds answer number kept command step =
     (own : statement.Step Kept) × DoesKept finds answer kept command own × (step ≡ told_step Statement own)
 
 -- the number of the next statement, and what the script has made and holds
-pub record ViewState : Type 0 where
-  pub number : ℕ
-  pub kept : Kept
+abbrev pub ViewState : Type 0
+ViewState = Numbered Kept
 
 -- a script starts with its first statement and with nothing
 abbrev pub first_view_statement : ViewState
-first_view_statement = record { number = 1; kept = record { catalogue = empty; views = [] } }
-
--- what a step leaves, before the statement of the next number
-abbrev pub numbered_step : ℕ → Step RunFault Kept → Step RunFault ViewState
-numbered_step number step = record { events = step.events; outcome = of step.outcome } where
-  of : Result Kept RunFault → Result ViewState RunFault
-  of (Ok kept) = Ok (record { number = suc number; kept = kept })
-  of (Err fault) = Err fault
-
--- what the next statement does, by its number
-abbrev pub DoesNextByViews : Finds → Answering → ViewState → Command → Step RunFault ViewState → Type 0
-DoesNextByViews finds answer state command step =
-    (own : Step RunFault Kept) × DoesByViews finds answer state.number state.kept command own × (step ≡ numbered_step state.number own)
+first_view_statement = first_statement (record { catalogue = empty; views = [] })
 
 -- the run of the statements of a script, from nothing on
 abbrev pub ViewsRun : Finds → Answering → List Command → WordsRun → Type 0
-ViewsRun finds answer commands run = RunOf (DoesNextByViews finds answer) first_view_statement commands run
+ViewsRun finds answer commands run = NumberedRun (DoesByViews finds answer) first_view_statement commands run

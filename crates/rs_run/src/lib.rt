@@ -6,6 +6,7 @@
 
 mod certificates;
 mod command;
+mod dialect;
 mod fault;
 mod feed;
 mod generated;

@@ -3,20 +3,20 @@ ghost use Rattle.rs_value.specs.Answer.{Gives};
 ghost use Rattle.rs_value.specs.Text.{text_of};
 ghost use Rattle.rs_statement.specs.Parts.Steps.{FetchesFile, Runs};
 ghost use Rattle.rs_run.specs.Parts.Read.{IsSource};
-ghost use Rattle.rs_run.specs.Plain.{TextRuns, as_it_is, or_text_fault, without_mark};
+ghost use Rattle.rs_run.specs.Plain.{or_text_fault, without_mark};
 ghost use Rattle.rs_outside.specs.Files.{finds_in};
 ghost use Rattle.rs_run.specs.Running.{IsRunOf};
-ghost use Rattle.rs_statement.specs.Session.{StatementsRun};
 ghost use Rattle.rs_run.specs.Words.{RunScript};
 ghost use Rattle.rs_events.specs.Environment.{Environment};
 
+use crate::dialect::interpret;
 use crate::readers::Readers;
-use crate::statement::run_statements;
-use rs_events::{Host, Objects};
+use crate::statement::Made;
+use rs_catalog::Catalog;
 use rs_expr::Scorer;
 use rs_lex::MOST_BYTES;
 use rs_outside::{Files, Sink};
-use rs_statement::{Evaluating, Fault, ScriptFault, fetch_file};
+use rs_statement::{Evaluating, Fault, ScriptFault, Session, fetch_file, release};
 use rs_table::TableReader;
 use rs_value::{Text, TextFault};
 use std::alloc::Global;
@@ -39,9 +39,22 @@ pub fn run_script<T: TableReader, F: Files, S: Scorer, O: Sink>(
         (record beside { files = F.state files.old; scorer = S.state scorer.old; out = O.state out.old })
         (record beside { files = F.state files.new; scorer = S.state scorer.new; out = O.state out.new }) }
 {
-    let script = fetch_script(alloc, name, files)?;
-    let mut host = Objects { files, scorer, out };
-    run_text(alloc, evaluating, script, readers, &mut host)
+    let mut made = Made {
+        catalog: Catalog::new(alloc),
+        session: Session::new(alloc),
+    };
+    let done = interpret(
+        alloc,
+        &evaluating,
+        &mut made,
+        name,
+        readers,
+        files,
+        scorer,
+        out,
+    );
+    release(made.catalog, made.session);
+    done
 }
 
 /// Fetches the text of a script, without the byte order mark at its start.
@@ -78,22 +91,4 @@ fn without_mark(bytes: &[u8]) -> &[u8]
         Some(rest) => rest,
         None => bytes,
     }
-}
-
-/// Does what the text of a script says.
-fn run_text<T: TableReader, W: Host>(
-    alloc: Global,
-    evaluating: Evaluating,
-    script: Text,
-    readers: &mut Readers<T>,
-    host: &mut W,
-) -> Result<(), Fault>
-    requires { length script ≤ 1048576 }
-    ensures { Runs
-        (TextRuns as_it_is (StatementsRun (finds_in (W.state host.old).files.contents) (W.state host.old).scorer.answer evaluating) script) result
-        (W.state host.old) (W.state host.new) }
-{
-    readers.script.read(alloc, script)?;
-    let statements = readers.script.statements();
-    run_statements(alloc, evaluating, statements, &mut readers.tables, host)
 }

@@ -1,57 +1,69 @@
 ghost use Rattle.std.specs.Prelude.{IfOk};
-ghost use Rattle.rs_syntax.specs.Syntax.{command_of, commands_of};
-ghost use Rattle.rs_syntax.specs.Written.{AreWritten, IsWritten};
+ghost use Rattle.rs_syntax.specs.Syntax.{command_of};
+ghost use Rattle.rs_syntax.specs.Written.{IsWritten};
 ghost use Rattle.rs_catalog.specs.IndexesHold.{IndexesHold};
-ghost use Rattle.rs_statement.specs.Parts.Steps.{Runs, Stepped};
+ghost use Rattle.rs_statement.specs.Parts.Steps.{Stepped};
 ghost use Rattle.rs_outside.specs.Files.{finds_in};
 ghost use Rattle.rs_statement.specs.Statements.{Does};
-ghost use Rattle.rs_statement.specs.Session.{DoesInSession, StatementsRun};
+ghost use Rattle.rs_statement.specs.Session.{DoesInSession};
 ghost use Rattle.rs_statement.specs.Parts.Session.{CanAllBeAsked, IsOfNoCursor, held_in, state_of};
 
+use crate::dialect::Dialect;
 use rs_catalog::Catalog;
 use rs_events::Host;
 use rs_exec::cursors_stand_in_larger_catalogues;
 use rs_statement::{
     Evaluating, Fault, Session, close, create_index, create_predicate, create_table, declare,
-    fetch, insert_rows, release, run_analyze, run_explain, run_select,
+    fetch, insert_rows, run_analyze, run_explain, run_select,
 };
 use rs_syntax::Statement;
 use rs_table::TableReader;
 use std::alloc::Global;
 
-/// Runs the statements of a script one after another, up to the first fault, over an empty catalogue and without a cursor.
-pub fn run_statements<T: TableReader, W: Host>(
-    alloc: Global,
-    evaluating: Evaluating,
-    statements: &[Statement],
-    tables: &mut T,
-    host: &mut W,
-) -> Result<(), Fault>
-    requires written { AreWritten (commands_of statements.now) }
-    ensures { Runs (StatementsRun (finds_in (W.state host.old).files.contents) (W.state host.old).scorer.answer evaluating (commands_of statements.now)) result
-        (W.state host.old) (W.state host.new) }
-{
-    let mut catalog = Catalog::new(alloc);
-    let mut session = Session::new(alloc);
-    for statement in statements {
-        match run_statement(
-            alloc,
-            evaluating,
-            statement,
-            &mut catalog,
-            &mut session,
-            tables,
-            host,
-        ) {
-            Ok(()) => {}
-            Err(fault) => {
-                release(catalog, session);
-                return Err(fault);
-            }
-        }
+/// The catalogue, and the cursors that are open.
+#[derive(Drop)]
+pub(crate) struct Made {
+    pub(crate) catalog: Catalog,
+    pub(crate) session: Session,
+}
+
+/// What `run` and `plain` make of statements: each query is evaluated so, and cursors are kept beside the catalogue.
+impl Dialect for Evaluating {
+    ghost use Rattle.rs_catalog.specs.IndexesHold.{IndexesHold};
+    ghost use Rattle.rs_statement.specs.Parts.Session.{CanAllBeAsked, held_in, state_of};
+    ghost use Rattle.rs_statement.specs.Session.{DoesInSession, State as SessionState};
+    ghost use Rattle.rs_run.specs.Plain.{as_it_is};
+
+    type Kept = Made;
+
+    type OwnFault = Fault;
+
+    ghost State = { SessionState };
+
+    ghost state = { λ made. state_of made.catalog (held_in made.session) };
+
+    ghost does = { λ evaluating finds answer number. DoesInSession finds answer evaluating };
+
+    ghost holds = { λ answer made. IndexesHold answer made.catalog × CanAllBeAsked answer made.catalog (held_in made.session) };
+
+    ghost tells = { as_it_is };
+
+    fn take<T: TableReader, W: Host>(
+        &self,
+        alloc: Global,
+        _number: usize,
+        statement: &Statement,
+        made: &mut Made,
+        tables: &mut T,
+        host: &mut W,
+    ) -> Result<(), Fault> {
+        let Made { catalog, session } = made;
+        run_statement(alloc, *self, statement, catalog, session, tables, host)
     }
-    release(catalog, session);
-    Ok(())
+
+    fn told(why: Fault) -> Fault {
+        why
+    }
 }
 
 /// Runs a statement.

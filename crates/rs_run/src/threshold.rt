@@ -22,19 +22,18 @@ ghost use Rattle.rs_statement.specs.Lines.{rank_lines};
 ghost use Rattle.rs_statement.specs.Statements.{or_bind_fault};
 ghost use Rattle.rs_run.specs.Faults.{run_faults};
 ghost use Rattle.rs_run.specs.Parts.Scanning.{IsAsked, IsBlockRow, IsBrokenOff, IsScanning, IsUnasked, Makes, accesses_text, most_asks, scan_input, scanned_rows};
-ghost use Rattle.rs_run.specs.Plain.{TextRuns};
 ghost use Rattle.rs_run.specs.Running.{IsFormRun};
-ghost use Rattle.rs_run.specs.Threshold.{DoesByScan, ScansRun, access_line, scan_asks, scan_lines, scan_step, scanned_step};
+ghost use Rattle.rs_run.specs.Threshold.{DoesByScan, access_line, scan_asks, scan_lines, scan_step, scanned_step};
 ghost use Rattle.rs_run.specs.Words.{Threshold};
 ghost use Rattle.rs_run.specs.declared.fault.ScriptWord.TheVariants.{Ta};
 
+use crate::dialect::{Dialect, interpret};
 use crate::fault::{RunFault, ScriptWord};
-use crate::plain::fetch_script;
 use crate::readers::Readers;
 use crate::statement::run_without_cursor;
 use rs_bind::bind;
 use rs_catalog::{Catalog, Snapshot};
-use rs_events::{Host, Objects, put_text};
+use rs_events::{Host, put_text};
 use rs_expr::Scorer;
 use rs_lines::RowLines;
 use rs_outside::{Files, Sink};
@@ -51,6 +50,46 @@ use rs_table::TableReader;
 use rs_value::{Memory, Text};
 use std::alloc::Global;
 
+/// What `ta` makes of statements: each query is answered by a threshold scan. The catalogue alone is kept.
+struct ByScan;
+
+impl Dialect for ByScan {
+    ghost use Rattle.rs_catalog.specs.Catalog.{CatalogDef};
+    ghost use Rattle.rs_catalog.specs.IndexesHold.{IndexesHold};
+    ghost use Rattle.rs_run.specs.Threshold.{DoesByScan};
+    ghost use Rattle.rs_run.specs.declared.fault.RunFault.TheVariants.{Statement};
+
+    type Kept = Catalog;
+
+    type OwnFault = RunFault;
+
+    ghost State = { CatalogDef };
+
+    ghost state = { λ catalogue. catalogue };
+
+    ghost does = { λ dialect. DoesByScan };
+
+    ghost holds = { IndexesHold };
+
+    ghost tells = { Statement };
+
+    fn take<T: TableReader, W: Host>(
+        &self,
+        alloc: Global,
+        number: usize,
+        statement: &Statement,
+        catalog: &mut Catalog,
+        tables: &mut T,
+        host: &mut W,
+    ) -> Result<(), RunFault> {
+        scan_statement(alloc, number, statement, catalog, tables, host)
+    }
+
+    fn told(why: Fault) -> RunFault {
+        RunFault::Statement(why)
+    }
+}
+
 /// Does what a script says, statement by statement, up to the first fault, with its queries answered by threshold scans. It and
 /// its tables are read by these readers.
 pub fn run_by_scan<T: TableReader, F: Files, S: Scorer, O: Sink>(
@@ -66,51 +105,19 @@ pub fn run_by_scan<T: TableReader, F: Files, S: Scorer, O: Sink>(
         (record beside { files = F.state files.old; scorer = S.state scorer.old; out = O.state out.old })
         (record beside { files = F.state files.new; scorer = S.state scorer.new; out = O.state out.new }) }
 {
-    let script = fetch_script(alloc, name, files)?;
-    let mut host = Objects { files, scorer, out };
-    scan_text(alloc, script, readers, &mut host)
-}
-
-/// Does what the text of a script says.
-fn scan_text<T: TableReader, W: Host>(
-    alloc: Global,
-    script: Text,
-    readers: &mut Readers<T>,
-    host: &mut W,
-) -> Result<(), RunFault>
-    requires { length script ≤ 1048576 }
-    ensures { Runs run_faults
-        (TextRuns RunFault.Statement (ScansRun (finds_in (W.state host.old).files.contents) (W.state host.old).scorer.answer) script) result
-        (W.state host.old) (W.state host.new) }
-{
-    readers.script.read(alloc, script)?;
-    let statements = readers.script.statements();
-    scan_statements(alloc, statements, &mut readers.tables, host)
-}
-
-/// Runs the statements of a script one after another, up to the first fault, over an empty catalogue.
-fn scan_statements<T: TableReader, W: Host>(
-    alloc: Global,
-    statements: &[Statement],
-    tables: &mut T,
-    host: &mut W,
-) -> Result<(), RunFault>
-    requires written { AreWritten (commands_of statements.now) }
-    ensures { Runs run_faults (ScansRun (finds_in (W.state host.old).files.contents) (W.state host.old).scorer.answer (commands_of statements.now)) result
-        (W.state host.old) (W.state host.new) }
-{
     let mut catalog = Catalog::new(alloc);
-    for (index, statement) in statements.iter().enumerate() {
-        match scan_statement(alloc, index + 1, statement, &mut catalog, tables, host) {
-            Ok(()) => {}
-            Err(fault) => {
-                release(catalog, Session::new(alloc));
-                return Err(fault);
-            }
-        }
-    }
+    let done = interpret(
+        alloc,
+        &ByScan,
+        &mut catalog,
+        name,
+        readers,
+        files,
+        scorer,
+        out,
+    );
     release(catalog, Session::new(alloc));
-    Ok(())
+    done
 }
 
 /// Runs the statement of this number.

@@ -12,7 +12,6 @@ ghost use Rattle.rs_syntax.specs.Syntax as syntax;
 ghost use Rattle.rs_syntax.specs.Written.{AreWritten};
 ghost use Rattle.rs_syntax.specs.declared.name.Name.{Name};
 ghost use Rattle.rs_outside.specs.Files.{found_in};
-ghost use Rattle.rs_run.specs.NumbersIn.{HaveNumbersInDeclares};
 ghost use Rattle.rs_run.specs.Reached.{AllHaveTheirAnswers, AreNotClosed, HasPlace, LeadsByViews, PutsAsPlain, PutsAsSelect, anything, most_written, with_limit};
 ghost use Rattle.rs_run.specs.Viewing.{ViewState, first_view_statement, view_named};
 
@@ -21,7 +20,7 @@ ghost use Rattle.rs_run.specs.Viewing.{ViewState, first_view_statement, view_nam
 /// bad number there.
 pub fn held_views_have_their_answers()
     ensures { (answer : Answering) (commands : List Command) (state : ViewState)
-        → AreWritten commands → HaveNumbersInDeclares commands → LeadsByViews anything answer first_view_statement commands state
+        → AreWritten commands → LeadsByViews anything answer first_view_statement commands state
         → AllHaveTheirAnswers answer state.kept }
 {}
 
@@ -31,7 +30,7 @@ pub fn held_views_have_their_answers()
 /// FETCH and CLOSE, lead from nothing to the same tables, predicates and indexes.
 pub fn fetches_of_views_put_what_plain_puts()
     ensures puts { (answer : Answering) (commands : List Command) (state : ViewState) (count : ℤ × Span) (wanted : ℕ) (name : Name) (view : ViewDef)
-        → AreWritten commands → HaveNumbersInDeclares commands → LeadsByViews anything answer first_view_statement commands state
+        → AreWritten commands → LeadsByViews anything answer first_view_statement commands state
         → count_of count ≡ Ok wanted → view_named name.text state.kept.views ≡ Ok view
         → PutsAsPlain answer state.kept count name (limited (min wanted (most_kept view.query)) view.query) }
     ensures place { (there : List ℕ → Option (List ℕ)) (answer : Answering) (commands : List Command) (state : ViewState)
@@ -42,8 +41,7 @@ pub fn fetches_of_views_put_what_plain_puts()
 /// SELECT of the DECLARE, with a LIMIT of the FETCH's number or its own, puts under `plain` in the place of the FETCH.
 pub fn fetches_of_views_put_what_selects_put()
     ensures { (answer : Answering) (before after : List Command) (state : ViewState) (declared name : Name) (query : syntax.Query) (limit count : ℤ × Span) (most wanted : ℕ)
-        → AreWritten (before ++ Declare declared query ∷ after) → HaveNumbersInDeclares (before ++ Declare declared query ∷ after)
-        → LeadsByViews anything answer first_view_statement (before ++ Declare declared query ∷ after) state
+        → AreWritten (before ++ Declare declared query ∷ after) → LeadsByViews anything answer first_view_statement (before ++ Declare declared query ∷ after) state
         → declared.text ≡ name.text → AreNotClosed name.text after
         → most_written query ≡ Ok most → count_of count ≡ Ok wanted → count_of limit ≡ Ok (min wanted most)
         → PutsAsSelect answer state.kept count name (with_limit limit query) }

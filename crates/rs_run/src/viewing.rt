@@ -12,20 +12,19 @@ ghost use Rattle.rs_events.specs.Running.{Runs, Stepped};
 ghost use Rattle.rs_statement.specs.Parts.Steps as steps;
 ghost use Rattle.rs_run.specs.Faults.{run_faults};
 ghost use Rattle.rs_run.specs.Parts.Holding.{AllStand, IsKept, kept_of, views_in};
-ghost use Rattle.rs_run.specs.Plain.{TextRuns};
 ghost use Rattle.rs_run.specs.Running.{IsFormRun};
-ghost use Rattle.rs_run.specs.Viewing.{DoesByViews, DoesKept, ViewsRun, declared_step, viewed_step};
+ghost use Rattle.rs_run.specs.Viewing.{DoesByViews, DoesKept, declared_step, viewed_step};
 ghost use Rattle.rs_run.specs.Words.{Views};
 ghost use Rattle.rs_run.specs.declared.fault.ScriptWord.TheVariants as word;
 
+use crate::dialect::{Dialect, interpret};
 use crate::fault::{RunFault, ScriptWord};
-use crate::plain::fetch_script;
 use crate::readers::Readers;
 use crate::statement::run_without_cursor;
 use crate::threshold::bound_query;
 use crate::views::{HeldViews, close_view, fetch_view, grow_views, make_view};
 use rs_catalog::Catalog;
-use rs_events::{Host, Objects};
+use rs_events::Host;
 use rs_expr::Scorer;
 use rs_outside::{Files, Sink};
 use rs_query::Query;
@@ -35,6 +34,54 @@ use rs_table::TableReader;
 use rs_value::Text;
 use rs_view::{is_keepable, views_go_on_to_stand};
 use std::alloc::Global;
+
+/// What `view` makes of statements: each DECLARE makes a view, which grows with its tables.
+struct ByViews;
+
+/// The catalogue, and the views that are held.
+#[derive(Drop)]
+struct KeptViews {
+    catalog: Catalog,
+    held: HeldViews,
+}
+
+impl Dialect for ByViews {
+    ghost use Rattle.rs_catalog.specs.IndexesHold.{IndexesHold};
+    ghost use Rattle.rs_run.specs.Parts.Holding.{AllStand, kept_of, views_in};
+    ghost use Rattle.rs_run.specs.Viewing.{DoesByViews, Kept as KeptDef};
+    ghost use Rattle.rs_run.specs.declared.fault.RunFault.TheVariants.{Statement};
+
+    type Kept = KeptViews;
+
+    type OwnFault = RunFault;
+
+    ghost State = { KeptDef };
+
+    ghost state = { λ kept. kept_of kept.catalog (views_in kept.held) };
+
+    ghost does = { λ dialect. DoesByViews };
+
+    ghost holds = { λ answer kept. IndexesHold answer kept.catalog × AllStand answer kept.catalog (views_in kept.held) };
+
+    ghost tells = { Statement };
+
+    fn take<T: TableReader, W: Host>(
+        &self,
+        alloc: Global,
+        number: usize,
+        statement: &Statement,
+        kept: &mut KeptViews,
+        tables: &mut T,
+        host: &mut W,
+    ) -> Result<(), RunFault> {
+        let KeptViews { catalog, held } = kept;
+        view_statement(alloc, number, statement, catalog, held, tables, host)
+    }
+
+    fn told(why: Fault) -> RunFault {
+        RunFault::Statement(why)
+    }
+}
 
 /// Does what a script says, statement by statement, up to the first fault, with its queries kept as views. It and its tables are
 /// read by these readers.
@@ -51,62 +98,16 @@ pub fn run_with_views<T: TableReader, F: Files, S: Scorer, O: Sink>(
         (record beside { files = F.state files.old; scorer = S.state scorer.old; out = O.state out.old })
         (record beside { files = F.state files.new; scorer = S.state scorer.new; out = O.state out.new }) }
 {
-    let script = fetch_script(alloc, name, files)?;
-    let mut host = Objects { files, scorer, out };
-    view_text(alloc, script, readers, &mut host)
-}
-
-/// Does what the text of a script says.
-fn view_text<T: TableReader, W: Host>(
-    alloc: Global,
-    script: Text,
-    readers: &mut Readers<T>,
-    host: &mut W,
-) -> Result<(), RunFault>
-    requires { length script ≤ 1048576 }
-    ensures { Runs run_faults
-        (TextRuns RunFault.Statement (ViewsRun (finds_in (W.state host.old).files.contents) (W.state host.old).scorer.answer) script) result
-        (W.state host.old) (W.state host.new) }
-{
-    readers.script.read(alloc, script)?;
-    let statements = readers.script.statements();
-    view_statements(alloc, statements, &mut readers.tables, host)
-}
-
-/// Runs the statements of a script one after another, up to the first fault, over an empty catalogue and without a view.
-fn view_statements<T: TableReader, W: Host>(
-    alloc: Global,
-    statements: &[Statement],
-    tables: &mut T,
-    host: &mut W,
-) -> Result<(), RunFault>
-    requires written { AreWritten (commands_of statements.now) }
-    ensures { Runs run_faults (ViewsRun (finds_in (W.state host.old).files.contents) (W.state host.old).scorer.answer (commands_of statements.now)) result
-        (W.state host.old) (W.state host.new) }
-{
-    let mut catalog = Catalog::new(alloc);
-    let mut held = HeldViews::new(alloc);
-    for (index, statement) in statements.iter().enumerate() {
-        match view_statement(
-            alloc,
-            index + 1,
-            statement,
-            &mut catalog,
-            &mut held,
-            tables,
-            host,
-        ) {
-            Ok(()) => {}
-            Err(fault) => {
-                drop(held);
-                release(catalog, Session::new(alloc));
-                return Err(fault);
-            }
-        }
-    }
-    drop(held);
-    release(catalog, Session::new(alloc));
-    Ok(())
+    let mut kept = KeptViews {
+        catalog: Catalog::new(alloc),
+        held: HeldViews::new(alloc),
+    };
+    let done = interpret(
+        alloc, &ByViews, &mut kept, name, readers, files, scorer, out,
+    );
+    drop(kept.held);
+    release(kept.catalog, Session::new(alloc));
+    done
 }
 
 /// Runs the statement of this number.
@@ -246,7 +247,14 @@ fn run_kept<T: TableReader, W: Host>(
     ensures stand { IfOk result (λ _. AllStand (W.state host.old).scorer.answer catalog.new (views_in held.new)) }
 {
     match statement {
-        Statement::Fetch { count, name } => fetch_view(alloc, count, name, held, host.out()),
+        Statement::Fetch { count, name } => fetch_view(
+            alloc,
+            count,
+            name,
+            catalog,
+            held,
+            host.out(),
+        ),
         Statement::Close { name } => close_view(name, held),
         Statement::Insert { .. } => insert_and_grow(alloc, statement, catalog, held, host.scorer()),
         _ => {

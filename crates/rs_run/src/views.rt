@@ -1,13 +1,13 @@
 //! The views that a script holds: what DECLARE, INSERT, FETCH and CLOSE do with them under the word `view`.
 
-ghost use Rattle.std.specs.Prelude.{◌≡◌, ◌++◌, ◌∷◌, [], IfErr, IfOk, OnErr, OnOk, false, take};
+ghost use Rattle.std.specs.Prelude.{◌≡◌, ◌++◌, ◌∷◌, [], IfErr, IfOk, OnErr, OnOk, drop, false, suc, take};
 ghost use Rattle.indexmap.specs.IndexMap.{keys};
 ghost use Rattle.rs_value.specs.Answer.{Gives};
 ghost use Rattle.rs_catalog.specs.Catalog.{CatalogDef, has_name};
 ghost use Rattle.rs_expr.specs.InOrder.{Inquires};
 ghost use Rattle.rs_expr.specs.Scoring.{Answering};
 ghost use Rattle.rs_query.specs.WellFormed.{IsQuery};
-ghost use Rattle.rs_view.specs.Views.{IsKeepable};
+ghost use Rattle.rs_view.specs.Views.{IsKeepable, Stands, rows_in};
 ghost use Rattle.rs_events.specs.Environment.{Environment};
 ghost use Rattle.rs_events.specs.Run.{lines_run};
 ghost use Rattle.rs_statement.specs.Lines.{rank_lines};
@@ -23,7 +23,6 @@ use rs_lex::Span;
 use rs_outside::Sink;
 use rs_plain::PlainFault;
 use rs_query::Query;
-use rs_rank::Answer;
 use rs_statement::{Fault, SessionFault, put_rows, query_fault, session_fault};
 use rs_syntax::Name;
 use rs_value::{Memory, Text};
@@ -32,6 +31,9 @@ use std::alloc::Global;
 
 /// The most views that may be held at once.
 const MOST_VIEWS: usize = 64;
+
+/// How many rows of a view have their output values at once while they are put.
+const ROWS_AT_ONCE: usize = 64;
 
 /// The views of a script by name, in the order of their DECLARE.
 #[derive(Drop)]
@@ -180,27 +182,60 @@ pub(crate) fn fetch_view<O: Sink>(
     alloc: Global,
     count: &(i64, Span),
     name: &Name,
+    catalog: &Catalog,
     held: &HeldViews,
     out: &mut O,
 ) -> Result<(), Fault>
-    ensures { (beside : Environment) (catalogue : CatalogDef) → Stepped
-        (λ step. step ≡ fetch_step (kept_of catalogue (views_in held.now)) count.now name.now) (kept_of catalogue (views_in held.now)) result
+    requires { (answer : Answering) × AllStand answer catalog.now (views_in held.now) }
+    ensures { (beside : Environment) → Stepped
+        (λ step. step ≡ fetch_step (kept_of catalog.now (views_in held.now)) count.now name.now) (kept_of catalog.now (views_in held.now)) result
         (record beside { out = O.state out.old }) (record beside { out = O.state out.new }) }
 {
     let count = bind_count(count.0, count.1)?;
     match held.views.get(&name.text) {
-        Some(view) => put_first(alloc, count, view.rows(), out),
+        Some(view) => put_first(alloc, catalog, view, count, out),
         None => Err(session_fault(SessionFault::Unknown, &name.text)),
     }
 }
 
-/// Puts the first ones of some rows, at most this many.
-fn put_first<O: Sink>(alloc: Global, count: u32, rows: &[Answer], out: &mut O) -> Result<(), Fault>
-    ensures { (beside : Environment) → Ran (lines_run (rank_lines 1 (take count rows.now))) result
+/// Puts the first rows of a view, at most this many. Output values would take far more memory than the view does, so they are made of
+/// a few rows at a time.
+fn put_first<O: Sink>(
+    alloc: Global,
+    catalog: &Catalog,
+    view: &View,
+    count: u32,
+    out: &mut O,
+) -> Result<(), Fault>
+    requires { (answer : Answering) × Stands answer catalog.now view.now }
+    ensures { (beside : Environment) → Ran (lines_run (rank_lines 1 (take count (rows_in catalog.now view.now)))) result
         (record beside { out = O.state out.old }) (record beside { out = O.state out.new }) }
 {
-    let wanted = (count as usize).min(rows.len());
-    put_rows(alloc, 0, &rows[..wanted], out)
+    let wanted = (count as usize).min(view.len());
+    let mut given = 0;
+    while given < wanted {
+        let some = ROWS_AT_ONCE.min(wanted - given);
+        put_some(alloc, catalog, view, given, some, out)?;
+        given += some;
+    }
+    Ok(())
+}
+
+/// Puts some rows of a view behind so many that were put.
+fn put_some<O: Sink>(
+    alloc: Global,
+    catalog: &Catalog,
+    view: &View,
+    given: usize,
+    some: usize,
+    out: &mut O,
+) -> Result<(), Fault>
+    requires { (answer : Answering) × Stands answer catalog.now view.now }
+    ensures { (beside : Environment) → Ran (lines_run (rank_lines (suc given) (take some (drop given (rows_in catalog.now view.now))))) result
+        (record beside { out = O.state out.old }) (record beside { out = O.state out.new }) }
+{
+    let rows = view.rows(alloc, catalog, given, some)?;
+    put_rows(alloc, given, &rows, out)
 }
 
 /// CLOSE: the name of a view is free again. All other views stay in their order.

@@ -137,8 +137,12 @@ module _ (catalogue : CatalogDef) where
   written-alike : (query : syntax.Query) → IsWrittenQuery query → IsWrittenQuery (without_filters query)
   written-alike query written = go query.right written where
     go : (right : Option (SetOp × syntax.Block)) → IsWrittenQuery (record query { right = right }) → IsWrittenQuery (without_filters (record query { right = right }))
-    go None written = record { left = written.left; right = tt; terms = written.terms }
-    go (Some right) written = record { left = written.left; right = written.right; terms = written.terms }
+    go None written = record { left = record { some = written.left.some; filter = tt }; right = tt; terms = written.terms }
+    go (Some right) written = record {
+      left = record { some = written.left.some; filter = tt };
+      right = record { some = written.right.some; filter = tt };
+      terms = written.terms;
+    }
 
   -- so without its conditions it is well formed
   pub unfiltered-formed : (query : syntax.Query) (bound : Query) → IsWrittenQuery query → bound_query catalogue query ≡ Ok bound → IsQuery catalogue (unfiltered bound)

@@ -1,10 +1,12 @@
 -- Which statements are well written, computed on literals.
 use Rattle.std.proofs.Common.{[], ◌∷◌, arith}
-use Rattle.std.specs.Prelude.{ℤ, pos, negsuc}
+use Rattle.std.specs.Prelude.{ℤ, pos, negsuc, None}
 use Rattle.rs_lex.specs.declared.token.Span.{Span}
 use Rattle.rs_value.specs.declared.kind.Kind.TheVariants as kind
-use Rattle.rs_syntax.specs.Syntax.{Command, CreateTable, CreateRankIndex, Close, Insert}
+use Rattle.rs_syntax.specs.Syntax.{Command, CreateTable, CreatePredicate, CreateRankIndex, Close, Insert}
+use Rattle.rs_syntax.specs.Syntax as syntax
 use Rattle.rs_syntax.specs.declared.name.Name.{Name}
+use Rattle.rs_syntax.specs.declared.node.Op.TheVariants.{Add}
 use Rattle.rs_syntax.specs.declared.name.Arg.TheVariants.{Int, Text}
 use Rattle.rs_syntax.specs.declared.row.Cell.TheVariants as cell
 use Rattle.rs_syntax.specs.declared.row.RowSyn.{RowSyn}
@@ -29,6 +31,16 @@ no_column h = omega (arith, h)
 
 too_great : IsWritten (index (pos 4000000000000000001)) → ⊥
 too_great h = omega (arith, h.1.0)
+
+-- a predicate over the greatest number, and over one beyond it
+abbrev predicate : ℤ → Command
+predicate n = CreatePredicate name ((name, kind.Int) ∷ []) (pos 1, at) None (syntax.Arith Add (syntax.Column (record { alias = None; column = name })) (syntax.Neg (syntax.Int n at) at) at)
+
+a_formula : IsWritten (predicate (pos 4000000000000000000))
+a_formula = (omega arith, (tt, omega arith))
+
+too_great_in_a_formula : IsWritten (predicate (pos 4000000000000000001)) → ⊥
+too_great_in_a_formula h = omega (arith, h.1.1)
 
 -- a row of a number and a text
 abbrev row : ℤ → RowSyn

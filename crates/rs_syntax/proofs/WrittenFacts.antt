@@ -5,18 +5,23 @@ use Rattle.std.specs.List.{AllByRecursion}
 use Rattle.std.proofs.lemmas.Int.{ints}
 use Rattle.rs_value.specs.Number.{greatest_int}
 use Rattle.rs_lex.specs.Spelling.{Spells}
+use Rattle.rs_lex.specs.declared.token.Span.{Span}
 use Rattle.rs_lex.specs.declared.token.Token.{Token}
 use Rattle.rs_grammar.specs.Grammar.{Tree, Leaf, Nothing, Pair, This, That, More, Node, yield}
+use Rattle.rs_grammar.specs.Kinds.{accepts}
+use Rattle.rs_grammar.specs.declared.kind.TokenKind.{TokenKind}
+use Rattle.rs_grammar.specs.declared.kind.TokenKind.TheVariants.{Min}
 use Rattle.rs_grammar.specs.declared.lexeme.Lexeme.{Lexeme}
 use Rattle.rs_grammar.proofs.LexemeFacts.{IsFront-whole}
+use Rattle.rs_syntax.specs.Expressions.{absolute_of, adding_of, ands, base_of, brackets_of, case_of, cases, comp_of, condition_of, conj_of, expr_of, extreme_in, extreme_of, multiplying_of, neg_of, ors, prod_of, prods, result_of, sign_of, sum_of, sums}
 use Rattle.rs_syntax.specs.Numbers.{IsNumber, AreNumbers}
 use Rattle.rs_syntax.specs.Scripts.{Parses}
-use Rattle.rs_syntax.specs.Statements.{signed_of, arg_in, arg_of, args_of, cell_in, cell_of, row_of, rows_of, term_of, terms_of, block_of, right_of, select_of, columns_of, create_in, create_of, statement_in, statement_of, statements_of, script_of}
-use Rattle.rs_syntax.specs.Syntax.{Block, Command, Explain, ExplainAnalyze}
-use Rattle.rs_syntax.specs.Trees.{leaf, last, part, inside, of_rule, last_of_rule, if_there, is_there, items_of, listed}
+use Rattle.rs_syntax.specs.Statements.{signed_of, arg_in, arg_of, args_of, cell_in, cell_of, row_of, rows_of, term_of, terms_of, block_of, filter_of, right_of, select_of, columns_of, create_in, create_of, statement_in, statement_of, statements_of, script_of}
+use Rattle.rs_syntax.specs.Syntax.{Block, Command, Explain, ExplainAnalyze, Expression, And, Arith, Greatest, Least, Or}
+use Rattle.rs_syntax.specs.Trees.{starts_at, ends_at, span, span_of, kind_at, leaf, last, part, inside, of_rule, last_of_rule, if_there, is_there, items_of, listed}
 use Rattle.rs_value.specs.declared.set_op.SetOp.{SetOp}
 use Rattle.rs_syntax.proofs.Numbers.{AreNumbers-lexemes}
-use Rattle.rs_syntax.specs.Written.{IsWrittenArg, AreWrittenArgs, IsWrittenBlock, IsWrittenTerm, IsWrittenQuery, IsWrittenCell, IsWrittenRow, IsWrittenInsert, IsWritten, AreWritten}
+use Rattle.rs_syntax.specs.Written.{IsWrittenArg, AreWrittenArgs, IsWrittenBlock, IsWrittenExpression, IsWrittenTerm, IsWrittenQuery, IsWrittenCell, IsWrittenRow, IsWrittenInsert, IsWritten, AreWritten}
 
 -- the numbers of a tree's tokens are such that a script can write them
 abbrev HasNumbers : Tree → Type 0
@@ -81,6 +86,12 @@ AllByRecursion-listed : {A : Type 0} (P : A → Type 0) (f : Tree → A) → ((t
 AllByRecursion-listed P f each t h =
     (each (part 0 t) (HasNumbers-part 0 t h), AllByRecursion-items P f each (last 1 t) (HasNumbers-last 1 t h))
 
+-- and of an optional part
+IfSome-there : {A : Type 0} (P : A → Type 0) (f : Tree → A) → ((t : Tree) → HasNumbers t → P (f t)) → (t : Tree) → HasNumbers t
+    → IfSome (if_there f t) P
+IfSome-there P f each (This t) h = each t h
+IfSome-there P f each _ h = tt
+
 -- a list of columns has one
 length-columns : (t : Tree) → 1 ≤ length (columns_of t)
 length-columns t = omega arith
@@ -118,18 +129,127 @@ terms_of-written : (t : Tree) → HasNumbers t → AllByRecursion IsWrittenTerm 
 terms_of-written t h =
     AllByRecursion-listed IsWrittenTerm term_of (λ u k. args_of-written (of_rule 3 u) (HasNumbers-of_rule 3 u k)) (inside t) (HasNumbers-inside t h)
 
--- a block has a FROM entry
-block_of-written : (t : Tree) → IsWrittenBlock (block_of t)
-block_of-written t = omega arith
+-- expressions
+extreme_of-written : (kind : TokenKind) (x y : Expression) (at : Span) → IsWrittenExpression x → IsWrittenExpression y → IsWrittenExpression (extreme_of kind x y at)
+extreme_of-written kind x y at first second = go (accepts (Min ∷ []) kind) where
+  go : (is_least : Bool) → IsWrittenExpression (if is_least then Least x y at else Greatest x y at)
+  go true = (first, second)
+  go false = (first, second)
 
-right_of-written : (t : Tree) → IfSome (if_there right_of t) (λ (second : SetOp × Block). IsWrittenBlock second.1)
-right_of-written (This t) = block_of-written (last 1 t)
-right_of-written t = tt
+mutual
+  unfolding expr_of
+
+  expr_of-written : (t : Tree) → HasNumbers t → IsWrittenExpression (expr_of t)
+  expr_of-written (Node (Pair first rest)) h = ors-written rest (starts_at first) (conj_of first) h.1 (conj_of-written first h.0)
+  expr_of-written _ h = tt
+
+  ors-written : (t : Tree) (from : ℕ) (left : Expression) → HasNumbers t → IsWrittenExpression left → IsWrittenExpression (ors from left t)
+  ors-written (More (Pair word right) rest) from left h is =
+      ors-written rest from (Or left (conj_of right) (span from (ends_at right))) h.1 (is, conj_of-written right h.0.1)
+  ors-written _ from left h is = is
+
+  conj_of-written : (t : Tree) → HasNumbers t → IsWrittenExpression (conj_of t)
+  conj_of-written (Node (Pair first rest)) h = ands-written rest (starts_at first) (neg_of first) h.1 (neg_of-written first h.0)
+  conj_of-written _ h = tt
+
+  ands-written : (t : Tree) (from : ℕ) (left : Expression) → HasNumbers t → IsWrittenExpression left → IsWrittenExpression (ands from left t)
+  ands-written (More (Pair word right) rest) from left h is =
+      ands-written rest from (And left (neg_of right) (span from (ends_at right))) h.1 (is, neg_of-written right h.0.1)
+  ands-written _ from left h is = is
+
+  neg_of-written : (t : Tree) → HasNumbers t → IsWrittenExpression (neg_of t)
+  neg_of-written (Node (This (Pair word t))) h = neg_of-written t h.1
+  neg_of-written (Node (That t)) h = comp_of-written t h
+  neg_of-written _ h = tt
+
+  comp_of-written : (t : Tree) → HasNumbers t → IsWrittenExpression (comp_of t)
+  comp_of-written (Node (Pair left (This (Pair word right)))) h = (sum_of-written left h.0, sum_of-written right h.1.1)
+  comp_of-written (Node (Pair left (That t))) h = sum_of-written left h.0
+  comp_of-written _ h = tt
+
+  sum_of-written : (t : Tree) → HasNumbers t → IsWrittenExpression (sum_of t)
+  sum_of-written (Node (Pair first rest)) h = sums-written rest (starts_at first) (prod_of first) h.1 (prod_of-written first h.0)
+  sum_of-written _ h = tt
+
+  sums-written : (t : Tree) (from : ℕ) (left : Expression) → HasNumbers t → IsWrittenExpression left → IsWrittenExpression (sums from left t)
+  sums-written (More (Pair word right) rest) from left h is =
+      sums-written rest from (Arith (adding_of word) left (prod_of right) (span from (ends_at right))) h.1 (is, prod_of-written right h.0.1)
+  sums-written _ from left h is = is
+
+  prod_of-written : (t : Tree) → HasNumbers t → IsWrittenExpression (prod_of t)
+  prod_of-written (Node (Pair first rest)) h = prods-written rest (starts_at first) (sign_of first) h.1 (sign_of-written first h.0)
+  prod_of-written _ h = tt
+
+  prods-written : (t : Tree) (from : ℕ) (left : Expression) → HasNumbers t → IsWrittenExpression left → IsWrittenExpression (prods from left t)
+  prods-written (More (Pair word right) rest) from left h is =
+      prods-written rest from (Arith (multiplying_of word) left (sign_of right) (span from (ends_at right))) h.1 (is, sign_of-written right h.0.1)
+  prods-written _ from left h is = is
+
+  sign_of-written : (t : Tree) → HasNumbers t → IsWrittenExpression (sign_of t)
+  sign_of-written (Node (This (Pair word t))) h = sign_of-written t h.1
+  sign_of-written (Node (That t)) h = base_of-written t h
+  sign_of-written _ h = tt
+
+  base_of-written : (t : Tree) → HasNumbers t → IsWrittenExpression (base_of t)
+  base_of-written (Node (This (Leaf l))) h = IsNumber-size l.number h
+  base_of-written (Node (That (This (Leaf l)))) h = tt
+  base_of-written (Node (That (That (This t)))) h = tt
+  base_of-written (Node (That (That (That (This t))))) h = absolute_of-written t h
+  base_of-written (Node (That (That (That (That (This t)))))) h = extreme_in-written t h
+  base_of-written (Node (That (That (That (That (That (This t))))))) h = brackets_of-written t h
+  base_of-written (Node (That (That (That (That (That (That t))))))) h = case_of-written t h
+  base_of-written _ h = tt
+
+  absolute_of-written : (t : Tree) → HasNumbers t → IsWrittenExpression (absolute_of t)
+  absolute_of-written (Node (Pair word (This (Pair bracket (Pair t close))))) h = expr_of-written t h.1.1.0
+  absolute_of-written (Node (Pair first (That rest))) h = tt
+  absolute_of-written _ h = tt
+
+  extreme_in-written : (t : Tree) → HasNumbers t → IsWrittenExpression (extreme_in t)
+  extreme_in-written (Node (Pair word (This (Pair bracket (Pair t (Pair comma (Pair u close))))))) h =
+      extreme_of-written (kind_at word) (expr_of t) (expr_of u) (span_of (Pair word close)) (expr_of-written t h.1.1.0) (expr_of-written u h.1.1.1.1.0)
+  extreme_in-written (Node (Pair first (That rest))) h = tt
+  extreme_in-written _ h = tt
+
+  brackets_of-written : (t : Tree) → HasNumbers t → IsWrittenExpression (brackets_of t)
+  brackets_of-written (Node (Pair bracket (Pair t close))) h = expr_of-written t h.1.0
+  brackets_of-written _ h = tt
+
+  case_of-written : (t : Tree) → HasNumbers t → IsWrittenExpression (case_of t)
+  case_of-written (Node (Pair word (Pair first (Pair others (Pair otherwise (Pair t end)))))) h = (
+    condition_of-written first h.1.0,
+    result_of-written first h.1.0,
+    cases-written others (ends_at end) (expr_of t) h.1.1.0 (expr_of-written t h.1.1.1.1.0),
+  )
+  case_of-written _ h = tt
+
+  cases-written : (t : Tree) (to : ℕ) (otherwise : Expression) → HasNumbers t → IsWrittenExpression otherwise → IsWrittenExpression (cases to otherwise t)
+  cases-written (More t others) to otherwise h is = (condition_of-written t h.0, result_of-written t h.0, cases-written others to otherwise h.1 is)
+  cases-written _ to otherwise h is = is
+
+  condition_of-written : (t : Tree) → HasNumbers t → IsWrittenExpression (condition_of t)
+  condition_of-written (Node (Pair word (Pair t (Pair behind u)))) h = expr_of-written t h.1.0
+  condition_of-written _ h = tt
+
+  result_of-written : (t : Tree) → HasNumbers t → IsWrittenExpression (result_of t)
+  result_of-written (Node (Pair word (Pair t (Pair behind u)))) h = expr_of-written u h.1.1.1
+  result_of-written _ h = tt
+
+-- a block has a FROM entry
+block_of-written : (t : Tree) → HasNumbers t → IsWrittenBlock (block_of t)
+block_of-written t h = record {
+  some = omega arith;
+  filter = IfSome-there IsWrittenExpression filter_of (λ u k. expr_of-written (last 1 u) (HasNumbers-last 1 u k)) (last_of_rule 5 t) (HasNumbers-last_of_rule 5 t h);
+}
+
+right_of-written : (t : Tree) → HasNumbers t → IfSome (if_there right_of t) (λ (second : SetOp × Block). IsWrittenBlock second.1)
+right_of-written =
+    IfSome-there (λ (second : SetOp × Block). IsWrittenBlock second.1) right_of (λ t h. block_of-written (last 1 t) (HasNumbers-last 1 t h))
 
 select_of-written : (t : Tree) → HasNumbers t → IsWrittenQuery (select_of t)
 select_of-written t h = record {
-  left = block_of-written (of_rule 0 t);
-  right = right_of-written (of_rule 1 t);
+  left = block_of-written (of_rule 0 t) (HasNumbers-of_rule 0 t h);
+  right = right_of-written (of_rule 1 t) (HasNumbers-of_rule 1 t h);
   terms = terms_of-written (of_rule 4 t) (HasNumbers-of_rule 4 t h);
 }
 
@@ -154,7 +274,7 @@ rows_of-written t h = record {
 -- statements
 create_in-written : (t : Tree) → HasNumbers t → IsWritten (create_in t)
 create_in-written (This t) h = length-columns (of_rule 3 t)
-create_in-written (That (This t)) h = length-columns (of_rule 3 t)
+create_in-written (That (This t)) h = (length-columns (of_rule 3 t), expr_of-written (last_of_rule 9 t) (HasNumbers-last_of_rule 9 t h))
 create_in-written (That (That t)) h = args_of-written (of_rule 8 t) (HasNumbers-of_rule 8 t h)
 create_in-written t h = length-columns (of_rule 3 t)
 

@@ -3,7 +3,8 @@ use Rattle.std.specs.Prelude.{nat_abs, ◌≤◌, List, length, IfSome}
 use Rattle.std.specs.List.{AllByRecursion}
 use Rattle.rs_value.specs.Number.{greatest_int}
 use Rattle.rs_grammar.specs.Places.{most_deep}
-use Rattle.rs_syntax.specs.Syntax.{Block, Query, Command, CreateTable, CreatePredicate, CreateRankIndex, Ask, Declare, Fetch, Close, Explain, ExplainAnalyze, Insert}
+use Rattle.rs_syntax.specs.Syntax.{Block, Command, CreateTable, CreatePredicate, CreateRankIndex, Ask, Declare, Expression, Fetch, Close, Explain, ExplainAnalyze, Insert, Query}
+use Rattle.rs_syntax.specs.Syntax as syntax
 use Rattle.rs_syntax.specs.declared.name.Arg.{Arg}
 use Rattle.rs_syntax.specs.declared.name.Arg.TheVariants.{Column, Int, Text}
 use Rattle.rs_syntax.specs.declared.row.Cell.{Cell}
@@ -25,9 +26,26 @@ AreWrittenArgs args = AllByRecursion IsWrittenArg args
 abbrev pub IsWrittenTerm : TermSyn → Type 0
 IsWrittenTerm term = AreWrittenArgs term.args
 
--- a block has a FROM entry
-abbrev pub IsWrittenBlock : Block → Type 0
-IsWrittenBlock block = 1 ≤ length block.from
+-- the numbers in an expression are in range
+abbrev pub IsWrittenExpression : Expression → Type 0
+IsWrittenExpression (syntax.Int n at) = nat_abs n ≤ greatest_int
+IsWrittenExpression (syntax.Text text at) = Unit {0}
+IsWrittenExpression (syntax.Column column) = Unit {0}
+IsWrittenExpression (syntax.Neg x at) = IsWrittenExpression x
+IsWrittenExpression (syntax.Arith op x y at) = IsWrittenExpression x × IsWrittenExpression y
+IsWrittenExpression (syntax.Abs x at) = IsWrittenExpression x
+IsWrittenExpression (syntax.Least x y at) = IsWrittenExpression x × IsWrittenExpression y
+IsWrittenExpression (syntax.Greatest x y at) = IsWrittenExpression x × IsWrittenExpression y
+IsWrittenExpression (syntax.Case x y z at) = IsWrittenExpression x × IsWrittenExpression y × IsWrittenExpression z
+IsWrittenExpression (syntax.Compare rel x y at) = IsWrittenExpression x × IsWrittenExpression y
+IsWrittenExpression (syntax.And x y at) = IsWrittenExpression x × IsWrittenExpression y
+IsWrittenExpression (syntax.Or x y at) = IsWrittenExpression x × IsWrittenExpression y
+IsWrittenExpression (syntax.Not x at) = IsWrittenExpression x
+
+-- a block has a FROM entry, and its condition is such
+pub record IsWrittenBlock (block : Block) : Type 0 where
+  pub some : 1 ≤ length block.from
+  pub filter : IfSome block.filter IsWrittenExpression
 
 -- the blocks of a query, and the arguments of each of its terms, are such
 pub record IsWrittenQuery (query : Query) : Type 0 where
@@ -50,10 +68,10 @@ pub record IsWrittenInsert (inserted : List RowSyn) : Type 0 where
   pub some : 1 ≤ length inserted
   pub rows : AllByRecursion IsWrittenRow inserted
 
--- a table has a column, a predicate a parameter, an INSERT a row, and the numbers among arguments and in rows are in range
+-- a table has a column, a predicate a parameter, an INSERT a row, and the numbers in expressions, among arguments and in rows are in range
 abbrev pub IsWritten : Command → Type 0
 IsWritten (CreateTable name columns file) = 1 ≤ length columns
-IsWritten (CreatePredicate name params max cost formula) = 1 ≤ length params
+IsWritten (CreatePredicate name params max cost formula) = (1 ≤ length params) × IsWrittenExpression formula
 IsWritten (CreateRankIndex name table predicate args at) = AreWrittenArgs args
 IsWritten (Ask query) = IsWrittenQuery query
 IsWritten (Declare name query) = IsWrittenQuery query

@@ -21,7 +21,7 @@ use std::alloc::Global;
 /// The statements that the tokens of a script parse to, all of them, in their order, with all places, weights, costs
 /// and groupings. Tokens parse to one list at most: that is answered where nothing is wrong with them, and else the
 /// first thing that is wrong. A table has a column, a predicate a parameter, a block a FROM entry, an INSERT a row and
-/// a row a cell, and numbers among arguments and cells are in range.
+/// a row a cell, and numbers in expressions and among arguments and cells are in range.
 ///
 /// # Errors
 ///
@@ -40,7 +40,7 @@ pub fn parse(alloc: Global, script: &Text, tokens: &[Token]) -> Result<Vec<State
     // Each span lies in the script, within that of what it is a part of, and those of its parts stand in order.
     ensures ordered { IfOk result (λ made. SpansInOrder 0 (length script.now) (commands_of made.items)) }
     // A table has a column, a predicate a parameter, a block a FROM entry, an INSERT a row and each row a cell, and numbers
-    // among arguments and cells are in range.
+    // in expressions and among arguments and cells are in range.
     ensures written { IfOk result (λ made. AreWritten (commands_of made.items)) }
     // Whatever the tokens parse to, where nothing is wrong with them, is answered: the grammar gives one list at most.
     ensures only { (commands : List Command) → Parses script.now tokens.now commands → IsSound script.now tokens.now

@@ -3,6 +3,7 @@ pub mod FieldFacts
 pub mod FirstFacts
 pub mod HeaderFacts
 pub mod NumberFacts
+pub mod ReadFacts
 pub mod RecordsFacts
 pub mod RelationFacts
 pub mod StoredFacts

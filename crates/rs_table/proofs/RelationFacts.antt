@@ -1,11 +1,10 @@
 -- What was read is a table: the rows fit the columns, and there are few of them.
-use Rattle.std.proofs.Common.{ℕ, ℤ, ◌≡◌, ◌+◌, ◌-◌, ◌<◌, ◌≤◌, Bool, true, false, nat_lt, ◌&&◌, List, [], ◌∷◌, length, get_or, map, zero, suc, inl, inr, sym, refl, ap, ◌∙◌, ◌++◌, length-append, subst, arith, rules, if◌then◌else◌, ◌==◌}
+use Rattle.std.proofs.Common.{ℕ, ℤ, ◌≡◌, ◌+◌, ◌-◌, ◌<◌, ◌≤◌, Bool, true, false, nat_lt, ◌&&◌, List, [], ◌∷◌, length, get_or, map, zero, suc, sym, refl, ap, ◌∙◌, ◌++◌, length-append, subst, arith, rules, if◌then◌else◌, ◌==◌}
 use Rattle.std.specs.Prelude.{Option, Some, None, Result, Ok, Err, IfOk, slice_get}
 use Rattle.std.specs.List.{AllByRecursion}
 use Rattle.std.specs.Str.{is_utf8}
 use Rattle.std.proofs.lemmas.List.Elements.{All-from_recursion, All-get_or}
 use Rattle.std.proofs.lemmas.Option.{slice_get-get_or}
-use Rattle.rs_value.specs.Answer.{Gives}
 use Rattle.rs_value.specs.Number.{int_value}
 use Rattle.rs_value.specs.declared.kind.Kind.{Kind}
 use Rattle.rs_value.specs.declared.kind.Kind.TheVariants as kind
@@ -14,7 +13,7 @@ use Rattle.rs_value.specs.declared.value.Value.TheVariants.{Int, Text}
 use Rattle.rs_value.specs.Value.{kind_of}
 use Rattle.rs_value.specs.declared.memory.Memory.{Memory}
 use Rattle.rs_table.specs.declared.fault.TableFault.{TableFault}
-use Rattle.rs_table.specs.declared.fault.TableFault.TheVariants.{NotUtf8, NotInt, FieldCount, TooManyRows, Memory as NoMemory}
+use Rattle.rs_table.specs.declared.fault.TableFault.TheVariants.{NotUtf8, NotInt, FieldCount, TooManyRows}
 use Rattle.rs_table.specs.Column.{Column}
 use Rattle.rs_table.specs.Relation.{Relation, IsTable, cell_at, row_fits, most_rows}
 use Rattle.rs_value.specs.Value.{fits}
@@ -70,25 +69,18 @@ cells_of-fits (column ∷ columns) row number (field ∷ fields) values same e =
     rw (parts.all_is, first, others) refl
 
 -- what holds of a row that was read
-record IsRow (columns : List Column) (row : ℕ) (values : List Value) : Type 0 where
-  few : row ≤ 131072
-  fit : row_fits columns values ≡ true
+pub record IsRow (columns : List Column) (row : ℕ) (values : List Value) : Type 0 where
+  pub few : row ≤ 131072
+  pub fit : row_fits columns values ≡ true
 
 -- a row that was read is one of the first 131,072, and fits
-row_of-row : (columns : List Column) (row : ℕ) (fields : List (List ℕ)) (values : List Value) → row_of columns row fields ≡ Ok values → IsRow columns row values
+pub row_of-row : (columns : List Column) (row : ℕ) (fields : List (List ℕ)) (values : List Value) → row_of columns row fields ≡ Ok values → IsRow columns row values
 row_of-row columns row fields values = go (nat_lt most_rows row) (length fields == length columns) refl refl where
   go : (many same : Bool) → nat_lt most_rows row ≡ many → (length fields == length columns) ≡ same
       → (if many then Err TooManyRows else if same then cells_of columns row 1 fields else Err (FieldCount row (length fields))) ≡ Ok values → IsRow columns row values
   go true same many_is same_is e = cc
   go false true many_is same_is e = record { few = search rules; fit = cells_of-fits columns row 1 fields values (search rules) e }
   go false false many_is same_is e = cc
-
--- a row that was read fits, whatever else is answered
-pub IfOk-fits : (columns : List Column) (row : ℕ) (fields : List (List ℕ)) (result : Result (List Value) TableFault) → length fields ≡ length columns
-    → Gives NoMemory (cells_of columns row 1 fields) result → IfOk result (λ values. row_fits columns values ≡ true)
-IfOk-fits columns row fields (Ok values) same (inl e) = cells_of-fits columns row 1 fields values same (sym e)
-IfOk-fits columns row fields (Ok values) same (inr e) = cc
-IfOk-fits columns row fields (Err fault) same given = tt
 
 -- the values of a row that fits are of the columns' kinds
 fits-kind : (k : Kind) (value : Value) → fits k value ≡ true → kind_of value ≡ k

@@ -132,7 +132,7 @@ room-at : (n : ℕ) (columns : List StoredCells) (column : StoredCells) → n < 
 room-at n columns column within is =
     get_or_from_slice_get (rooms_in columns) n column.room 0 (slice_get-map (λ (c : StoredCells). c.room) columns n ∙ rw (slice_get_read columns (length columns) n column refl within is) refl)
 
-cells-at : (n : ℕ) (columns : List StoredCells) (column : StoredCells) → n < length columns → column ≡ get_or columns n column → get_or (cells_in columns) n [] ≡ column.cells
+pub cells-at : (n : ℕ) (columns : List StoredCells) (column : StoredCells) → n < length columns → column ≡ get_or columns n column → get_or (cells_in columns) n [] ≡ column.cells
 cells-at n columns column within is =
     get_or_from_slice_get (cells_in columns) n column.cells [] (slice_get-map (λ (c : StoredCells). c.cells) columns n ∙ rw (slice_get_read columns (length columns) n column refl within is) refl)
 

@@ -5,11 +5,12 @@ use Rattle.std.proofs.lemmas.Cmp.{nat_list_eq_equiv}
 use Rattle.std.proofs.lemmas.List.{get_or_append_left, get_or_push, length_push, map-append}
 use Rattle.std.proofs.lemmas.List.Elements.{All-head, All-push, All-tail, All-weaker}
 use Rattle.std.proofs.lemmas.List.Folds.{list_any-append}
-use Rattle.std.proofs.lemmas.Option.{get_or_from_slice_get}
+use Rattle.std.proofs.lemmas.List.Quantifiers.{position-Some}
+use Rattle.std.proofs.lemmas.Option.{get_or_from_slice_get, slice_get-get_or, slice_get_within}
 use Rattle.std.proofs.lemmas.Slice.Eq.{bytes_eq-Decides}
 use Rattle.std.specs.Cmp.Lexicographic.{pointwise}
 use Rattle.std.specs.List.{All, list_any}
-use Rattle.std.specs.Prelude.{Some, slice_get}
+use Rattle.std.specs.Prelude.{Some, position, slice_get}
 use Rattle.std.specs.Str.{bytes_eq}
 use Rattle.indexmap.specs.IndexSet.{insert_key}
 use Rattle.rs_table.specs.Stored.{IsNumbered, texts_of}
@@ -162,6 +163,18 @@ joins kept numbers text now number h keys within is = go (list_any (pointwise na
 pub stored-is : (keys : List (List ℕ)) (text : List ℕ) (number : ℕ) → (key : List ℕ) × (slice_get keys number ≡ Some key) × (pointwise nat_eq text key ≡ true)
     → get_or keys number [] ≡ text
 stored-is keys text number (key, there, same) = get_or_from_slice_get keys number key [] there ∙ sym ((bytes_eq-Decides text key).0 same)
+
+-- a text that is found among keys stands where it is found
+pub found-at : (keys : List (List ℕ)) (text : List ℕ) (number : ℕ) → position (bytes_eq text) keys ≡ Some number → slice_get keys number ≡ Some text
+found-at keys text number found =
+    let first = position-Some (bytes_eq text) keys number [] found in
+    slice_get-get_or keys number [] first.0 ∙ ap (λ key. Some key) (sym ((bytes_eq-Decides text (get_or keys number [])).0 first.1))
+
+-- a text joins, which stands at its number
+pub joins-at : (kept : List (List ℕ)) (numbers : List ℕ) (text : List ℕ) (now : List (List ℕ)) (number : ℕ) → IsNumbered kept numbers → now ≡ insert_key (pointwise nat_eq) kept text
+    → slice_get now number ≡ Some text → Joins kept numbers text now number
+joins-at kept numbers text now number h keys at =
+    joins kept numbers text now number h keys (slice_get_within now number text at) (get_or_from_slice_get now number text [] at)
 
 -- texts, as cells
 pub texts_among-texts : (texts : List (List ℕ)) → texts_among (map (λ (t : List ℕ). Text t) texts) ≡ texts

@@ -1,13 +1,15 @@
-ghost use Rattle.std.specs.Prelude.{◌≡◌, ◌+◌, ◌<◌, ◌≤◌, ◌^◌, ◌∷◌, ◌++◌, [], IfOk, OnOk, Some, length, slice_get, List, ℕ};
+ghost use Rattle.std.specs.Prelude.{◌≡◌, ◌+◌, ◌<◌, ◌≤◌, ◌^◌, ◌∷◌, ◌++◌, [], ◌⊎◌, Err, IfErr, IfOk, Ok, OnErr, OnOk, Some, length, slice_get, List, ℕ};
 ghost use Rattle.rs_value.specs.Value.{kind_of};
 ghost use Rattle.rs_value.specs.declared.kind.Kind.TheVariants as kind;
 ghost use Rattle.rs_value.specs.declared.value.Value.TheVariants as value;
 ghost use Rattle.rs_table.specs.Lent.{shown};
+ghost use Rattle.rs_table.specs.Reading.{cell_of};
 ghost use Rattle.rs_table.specs.Texts.{text_number, texts_among};
 
 use crate::cell::Cell;
+use crate::fault::TableFault;
 use crate::texts::Texts;
-use rs_value::{Kind, Memory, Text, Value};
+use rs_value::{Kind, Memory, Text, Value, int_of};
 use std::alloc::Global;
 use std::hash::RandomState;
 use std::marker::Model;
@@ -79,6 +81,27 @@ impl Cells {
             Kept::Texts(texts) => match value {
                 Value::Text(text) => texts.push(text),
                 Value::Int(_) => unreachable!(),
+            },
+        }
+    }
+
+    /// Puts the value of a field last. The row and the column are those that a fault names. After a fault the cells are as
+    /// they were.
+    pub fn read(&mut self, row: u32, column: u32, field: &[u8]) -> Result<(), TableFault>
+        requires few { length self.old.cells + 1 < 2 ^ 32 }
+        ensures kind { self.new.kind ≡ self.old.kind }
+        ensures ok { OnOk result ((value : Value) × (cell_of self.old.kind row column field.now ≡ Ok value) × (self.new.cells ≡ self.old.cells ++ value ∷ [])) }
+        ensures err { IfErr result (λ fault. (fault ≡ TableFault.Memory) ⊎ (cell_of self.old.kind row column field.now ≡ Err fault)) }
+        ensures kept { OnErr result (self.new.cells ≡ self.old.cells) }
+    {
+        match &mut self.kept {
+            Kept::Ints(numbers) => match int_of(field) {
+                Some(number) => Ok(numbers.push(number)?),
+                None => Err(TableFault::NotInt { row, column }),
+            },
+            Kept::Texts(texts) => match str::from_utf8(field) {
+                Ok(text) => Ok(texts.add(text)?),
+                Err(_) => Err(TableFault::NotUtf8 { row, column }),
             },
         }
     }

@@ -1,10 +1,10 @@
-ghost use Rattle.std.specs.Prelude.{◌≡◌, ◌+◌, ◌<◌, ◌≤◌, ◌^◌, ◌∷◌, ◌++◌, [], ℕ, List as Seq, IfOk, OnErr, OnOk, Some, length, map, slice_get, slice_index_or};
+ghost use Rattle.std.specs.Prelude.{◌≡◌, ◌+◌, ◌<◌, ◌≤◌, ◌^◌, ◌∷◌, ◌++◌, [], ℕ, List as Seq, IfOk, OnOk, Some, length, map, slice_get, slice_index_or};
 ghost use Rattle.std.specs.List.{All, AllByRecursion};
 ghost use Rattle.rs_value.specs.Value.{kind_of};
 ghost use Rattle.rs_value.specs.declared.kind.Kind.TheVariants as kind;
 ghost use Rattle.rs_value.specs.declared.value.Value.TheVariants as value;
 ghost use Rattle.rs_table.specs.Lent.{shown};
-ghost use Rattle.rs_table.specs.Stored.{AreEven, HasRoom, cells_in, kinds_in, pushed, rooms_in};
+ghost use Rattle.rs_table.specs.Stored.{AreEven, HasRoom, cells_in, kinds_in, pushed, rooms_in, rows_across};
 ghost use Rattle.rs_table.specs.Texts.{cells_across, text_number, texts_among};
 
 use crate::cell::Cell;
@@ -33,17 +33,13 @@ impl Model for Columns {
 }
 
 impl Columns {
-    /// No rows of these columns, whose texts are to be hashed by these keys.
-    pub fn new(
-        alloc: Global,
-        hash_keys: RandomState,
-        columns: &[(Text, Kind)],
-    ) -> Result<Columns, Memory>
-        ensures kinds { IfOk result (λ rows. rows.kinds ≡ map (λ column. column.1) columns.now) }
-        ensures rows { IfOk result (λ rows. rows.rows ≡ []) }
+    /// So many rows, whose cells these columns have.
+    pub fn of(columns: Vec<Cells>, len: u32) -> Columns
+        requires { AreEven len (cells_in columns.items) }
+        ensures kinds { result.kinds ≡ kinds_in columns.items }
+        ensures rows { result.rows ≡ rows_across len (cells_in columns.items) }
     {
-        let columns = empty_columns(alloc, hash_keys, columns)?;
-        Ok(Columns { columns, len: 0 })
+        Columns { columns, len }
     }
 
     /// How many rows there are.
@@ -88,19 +84,6 @@ impl Columns {
         }
     }
 
-    /// Puts a row last, where there is memory for it. Else the rows stay as they were.
-    pub fn add_row(&mut self, row: List<Value>) -> Result<(), Memory>
-        requires kinds { map kind_of row ≡ self.old.kinds }
-        requires few { length self.old.rows + 1 < 2 ^ 32 }
-        ensures kinds { self.new.kinds ≡ self.old.kinds }
-        ensures ok { OnOk result (self.new.rows ≡ self.old.rows ++ row ∷ []) }
-        ensures err { OnErr result (self.new.rows ≡ self.old.rows) }
-    {
-        self.reserve(1)?;
-        self.push_row(row);
-        Ok(())
-    }
-
     /// The same rows.
     pub fn copy(&self) -> Result<Columns, Memory>
         ensures kinds { IfOk result (λ copy. copy.kinds ≡ self.now.kinds) }
@@ -142,8 +125,8 @@ impl Columns {
     }
 }
 
-/// A column without cells for each of these.
-fn empty_columns(
+/// A column without cells for each of these, whose texts are to be hashed by these keys.
+pub(crate) fn empty_columns(
     alloc: Global,
     hash_keys: RandomState,
     columns: &[(Text, Kind)],

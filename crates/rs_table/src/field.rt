@@ -2,11 +2,10 @@ ghost use Rattle.std.specs.Prelude.{◌≡◌, ◌<◌, [], length, slice_index_
 ghost use Rattle.std.specs.Str.{is_utf8};
 ghost use Rattle.csv.specs.Records.{fields_of};
 ghost use Rattle.rs_value.specs.Answer.{Gives};
-ghost use Rattle.rs_table.specs.Reading.{cell_of};
 
 use crate::fault::TableFault;
 use csv::ByteRecord;
-use rs_value::{Kind, Text, TextFault, Value, int_of};
+use rs_value::{Text, TextFault};
 use std::alloc::Global;
 
 /// The field of a record at this place, counted from 0.
@@ -30,24 +29,5 @@ pub(crate) fn text_at(
         Ok(text) => Ok(text),
         Err(TextFault::NotUtf8 { .. }) => Err(TableFault::NotUtf8 { row, column }),
         Err(TextFault::Memory) => Err(TableFault::Memory),
-    }
-}
-
-/// The value of a field in a column of this kind.
-pub(crate) fn read_cell(
-    alloc: Global,
-    kind: Kind,
-    row: u32,
-    column: u32,
-    field: &[u8],
-) -> Result<Value, TableFault>
-    ensures { Gives TableFault.Memory (cell_of kind row column field.now) result }
-{
-    match kind {
-        Kind::Int => match int_of(field) {
-            Some(number) => Ok(Value::Int(number)),
-            None => Err(TableFault::NotInt { row, column }),
-        },
-        Kind::Text => Ok(Value::Text(text_at(alloc, row, column, field)?)),
     }
 }

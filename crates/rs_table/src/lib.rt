@@ -14,6 +14,7 @@ mod first_rows;
 mod reader;
 mod records;
 mod schema;
+mod sought;
 mod table;
 mod texts;
 

@@ -1,4 +1,4 @@
-ghost use Rattle.std.specs.Prelude.{◌≡◌, ◌≤◌, ◌<◌, ◌+◌, ◌^◌, ◌==◌, ◌⊎◌, [], ◌∷◌, length, map, slice_get, true, ℕ, List as Seq, IfOk, IfErr, IfSome, IsOk, OnErr, OnOk, MatchOption, MatchResult};
+ghost use Rattle.std.specs.Prelude.{◌≡◌, ◌≤◌, ◌<◌, ◌+◌, ◌-◌, ◌^◌, ◌==◌, ◌⊎◌, length, map, slice_get, true, ℕ, List as Seq, IfOk, IfErr, IsOk, OnErr, OnOk, MatchResult};
 ghost use Rattle.csv.specs.Records.{fields_of};
 ghost use Rattle.rs_value.specs.Answer.{Gives};
 ghost use Rattle.rs_value.specs.declared.kind.Kind.TheVariants as kind;
@@ -9,13 +9,15 @@ ghost use Rattle.rs_table.specs.Texts.{column_texts, text_number};
 ghost use Rattle.rs_table.specs.Relation.{cell_at, most_rows, row_fits};
 ghost use Rattle.rs_value.specs.Value.{fits};
 ghost use Rattle.std.specs.List.{AllByRecursion};
-ghost use Rattle.rs_table.specs.Appended.{appended};
+ghost use Rattle.rs_table.specs.ReadInto.{ReadInto};
+ghost use Rattle.rs_table.specs.Stored.{AreEven, cells_in, kinds_in};
 ghost use Rattle.rs_table.specs.Reading.{cells_of, difference_from, row_of, rows_from, rows_of_records, table_of};
 
 use crate::cell::Cell;
-use crate::columns::Columns;
+use crate::cells::Cells;
+use crate::columns::{Columns, empty_columns};
 use crate::fault::TableFault;
-use crate::field::{field_at, read_cell};
+use crate::field::field_at;
 use crate::records::Records;
 use crate::schema::Schema;
 use csv::ByteRecord;
@@ -236,48 +238,31 @@ fn read_rows(
     ensures rows { MatchResult result (λ rows. rows_from columns.now 1 records.old ≡ Ok rows.rows) (λ fault. (fault ≡ TableFault.Memory) ⊎ (rows_from columns.now 1 records.old ≡ Err fault)) }
     ensures kinds { IfOk result (λ rows. rows.kinds ≡ map (λ column. column.1) columns.now) }
 {
-    let mut rows = Columns::new(alloc, hash_keys, columns)?;
-    loop {
-        match next_row(alloc, columns, rows.len() + 1, records, record_)? {
-            Some(values) => rows.add_row(values)?,
-            None => return Ok(rows),
-        }
+    let mut cells = empty_columns(alloc, hash_keys, columns)?;
+    let mut len = 0;
+    while records.read(record_)? {
+        read_row(columns, len + 1, record_, cells.as_mut_slice())?;
+        len += 1;
     }
+    Ok(Columns::of(cells, len))
 }
 
-/// Reads the next row, which has this number, where one is left.
-fn next_row(
-    alloc: Global,
-    columns: &[(Text, Kind)],
-    row: u32,
-    records: &mut Records<'_>,
-    record_: &mut ByteRecord,
-) -> Result<Option<List<Value>>, TableFault>
-    requires { length columns.now ≤ 64 }
-    ensures end { IfOk result (λ next. MatchOption next (records.old ≡ []) (λ values. rows_from columns.now row records.old ≡ appended (values ∷ []) (rows_from columns.now (row + 1) records.new))) }
-    ensures few { IfOk result (λ next. MatchOption next (Unit {0}) (λ values. row ≤ most_rows)) }
-    ensures fit { IfOk result (λ next. IfSome next (λ values. row_fits columns.now values ≡ true)) }
-    ensures refused { IfErr result (λ fault. (fault ≡ TableFault.Memory) ⊎ (rows_from columns.now row records.old ≡ Err fault)) }
-{
-    if !records.read(record_)? {
-        return Ok(None);
-    }
-    let values = read_row(alloc, columns, row, record_)?;
-    Ok(Some(values))
-}
-
-/// The values of a row.
+/// Reads the row of this number into the columns, each of which has a cell for each row before it. Where it is refused,
+/// columns may have got a cell more.
 fn read_row(
-    alloc: Global,
     columns: &[(Text, Kind)],
     row: u32,
     record_: &ByteRecord,
-) -> Result<List<Value>, TableFault>
+    cells: &mut [Cells],
+) -> Result<(), TableFault>
     requires columns { length columns.now ≤ 64 }
     requires fields { length (fields_of record_.now) < 2 ^ 32 }
-    ensures gives { Gives TableFault.Memory (row_of columns.now row (fields_of record_.now)) result }
-    ensures few { IfOk result (λ values. row ≤ most_rows) }
-    ensures fit { IfOk result (λ values. row_fits columns.now values ≡ true) }
+    requires kinds { kinds_in cells.old ≡ map (λ column. column.1) columns.now }
+    requires even { AreEven (row - 1) (cells_in cells.old) }
+    ensures kinds { kinds_in cells.new ≡ kinds_in cells.old }
+    ensures ok { OnOk result (ReadInto (row_of columns.now row (fields_of record_.now)) (cells_in cells.old) (cells_in cells.new)) }
+    ensures err { IfErr result (λ fault. (fault ≡ TableFault.Memory) ⊎ (row_of columns.now row (fields_of record_.now) ≡ Err fault)) }
+    ensures few { OnOk result (row ≤ most_rows) }
 {
     if row as usize > MOST_ROWS {
         return Err(TableFault::TooManyRows);
@@ -288,24 +273,29 @@ fn read_row(
             found: record_.len() as u32,
         });
     }
-    read_cells(alloc, columns, row, record_)
+    read_cells(columns, row, record_, cells)
 }
 
-/// The values of a row's fields, of which there are as many as columns.
+/// Reads a row's fields, of which there are as many as columns, into the columns.
 fn read_cells(
-    alloc: Global,
     columns: &[(Text, Kind)],
     row: u32,
     record_: &ByteRecord,
-) -> Result<List<Value>, TableFault>
+    cells: &mut [Cells],
+) -> Result<(), TableFault>
     requires few { length columns.now ≤ 64 }
+    requires few_rows { row ≤ most_rows }
     requires same { length (fields_of record_.now) ≡ length columns.now }
-    ensures { Gives TableFault.Memory (cells_of columns.now row 1 (fields_of record_.now)) result }
+    requires kinds { kinds_in cells.old ≡ map (λ column. column.1) columns.now }
+    requires even { AreEven (row - 1) (cells_in cells.old) }
+    ensures kinds { kinds_in cells.new ≡ kinds_in cells.old }
+    ensures ok { OnOk result (ReadInto (cells_of columns.now row 1 (fields_of record_.now)) (cells_in cells.old) (cells_in cells.new)) }
+    ensures err { IfErr result (λ fault. (fault ≡ TableFault.Memory) ⊎ (cells_of columns.now row 1 (fields_of record_.now) ≡ Err fault)) }
 {
-    let mut values = Vec::new(alloc);
-    for (index, column) in columns.iter().enumerate() {
+    for index in 0..columns.len() {
         let field = field_at(record_, index);
-        values.push(read_cell(alloc, column.1, row, index as u32 + 1, field)?)?;
+        let column = &mut cells[index];
+        column.read(row, index as u32 + 1, field)?;
     }
-    Ok(List::of(values))
+    Ok(())
 }

@@ -1,6 +1,9 @@
-ghost use Rattle.std.specs.Prelude.{◌≡◌, ◌+◌, ◌<◌, ◌≤◌, ◌^◌, ◌∷◌, ◌++◌, [], IfOk, OnOk, length, slice_index_or};
+ghost use Rattle.std.specs.Prelude.{◌≡◌, ◌==◌, ◌+◌, ◌<◌, ◌≤◌, ◌^◌, ◌∷◌, ◌++◌, [], IfOk, OnErr, OnOk, Some, length, slice_get, slice_index_or};
+ghost use Rattle.std.specs.Cmp.Lexicographic.{pointwise};
+ghost use Rattle.indexmap.specs.IndexSet.{insert_key};
 ghost use Rattle.rs_table.specs.Texts.{text_number};
 
+use crate::sought::Sought;
 use indexmap::IndexSet;
 use rs_value::{Memory, Text};
 use std::alloc::Global;
@@ -61,6 +64,19 @@ impl Texts {
         }
     }
 
+    /// Puts a text last, where there is memory for it. Else the texts stay as they were. It is copied only where it isn't
+    /// kept yet.
+    pub fn add(&mut self, text: &str) -> Result<(), Memory>
+        requires few { length self.old.texts + 1 < 2 ^ 32 }
+        ensures ok { OnOk result (self.new.texts ≡ self.old.texts ++ text.now ∷ []) }
+        ensures err { OnErr result (self.new.texts ≡ self.old.texts) }
+    {
+        self.numbers.reserve(1)?;
+        let number = kept_number(&mut self.kept, text)?;
+        self.numbers.push_reserved(number as u32);
+        Ok(())
+    }
+
     /// The same texts, with the same numbers.
     pub fn copy(&self) -> Result<Texts, Memory>
         ensures { IfOk result (λ copy. copy.texts ≡ self.now.texts) }
@@ -86,6 +102,21 @@ impl Texts {
     {
         self.numbers[place]
     }
+}
+
+/// The number of a text, a copy of which is kept where it wasn't yet. Without memory for it the kept texts stay as they
+/// were.
+fn kept_number(kept: &mut IndexSet<Text, RandomState>, text: &str) -> Result<usize, Memory>
+    ensures keys { OnOk result (kept.new.keys ≡ insert_key (pointwise ◌==◌) kept.old.keys text.now) }
+    ensures stored { IfOk result (λ number. slice_get kept.new.keys number ≡ Some text.now) }
+    ensures err { OnErr result (kept.new.keys ≡ kept.old.keys) }
+{
+    if let Some(number) = kept.get_index_of(Sought(text)) {
+        return Ok(number);
+    }
+    let chars = String::from_str(*kept.allocator(), text)?;
+    let (number, _) = kept.insert_full(Text::from(chars))?;
+    Ok(number)
 }
 
 /// The same texts in the same order, hashed by the same keys.

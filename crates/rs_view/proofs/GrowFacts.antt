@@ -1,7 +1,7 @@
 -- What a growth does, from what its parts do.
-use Rattle.std.proofs.Common.{ℕ, ◌≡◌, ◌∙◌, List, [], ◌++◌, length, take, refl, sym, ap, subst, append-nil}
+use Rattle.std.proofs.Common.{ℕ, ◌≡◌, ◌∙◌, List, [], ◌++◌, length, map, refl, sym, ap, subst, append-nil}
 use Rattle.std.specs.Prelude.{Result, Ok, Err, IfErr, OnErr, OnOk}
-use Rattle.rs_rank.specs.declared.answer.Answer.{Answer}
+use Rattle.rs_rank.specs.declared.row.RankRow.{RankRow}
 use Rattle.rs_expr.specs.InOrder.{Inquires}
 use Rattle.rs_expr.specs.Scoring.{Answering, ScorerState}
 use Rattle.rs_catalog.specs.Catalog.{CatalogDef}
@@ -16,10 +16,11 @@ use Rattle.rs_plain.specs.Results.{NamesCalled}
 use Rattle.rs_plain.specs.declared.fault.PlainFault.{PlainFault}
 use Rattle.rs_plain.specs.declared.fault.PlainFault.TheVariants.{Memory}
 use Rattle.rs_view.specs.Fresh.{as_grown, fresh_questions, fresh_rows, growing, making, whole_view}
-use Rattle.rs_view.specs.Keeping.{AreFirst}
-use Rattle.rs_view.specs.Views.{IsKeepable, Stands, ViewDef, kept_rows, most_kept}
+use Rattle.rs_view.specs.Keeping.{AreFirst, key_of_row}
+use Rattle.rs_view.specs.Views.{IsKeepable, Stands, ViewDef, kept_rows, most_kept, without_values}
 use Rattle.rs_view.proofs.CallFacts.{fresh-named, questions-all}
-use Rattle.rs_view.proofs.RowFacts.{by_score, kept-grown, kept-none}
+use Rattle.rs_view.proofs.FirstFacts.{first_scored}
+use Rattle.rs_view.proofs.RowFacts.{kept-grown, kept-none}
 use Rattle.rs_view.proofs.SplitFacts.{IsSizes-none, no_lengths}
 use Rattle.rs_view.proofs.StandFacts.{Stands-whole}
 use Rattle.rs_query.proofs.BlockFacts.{block-formed}
@@ -37,20 +38,20 @@ module _ (catalogue : CatalogDef) (old : ViewDef) (before after : ScorerState) (
   abbrev questions : List Question
   questions = fresh_questions catalogue (block_in old.query 1) old.lengths
 
-  abbrev first_rows : Answering → List Answer
-  first_rows answer = take (most_kept old.query) (by_score (fresh_rows answer catalogue (block_in old.query 1) old.lengths))
+  abbrev first_rows : Answering → List RankRow
+  first_rows answer = first_scored (most_kept old.query) (fresh_rows answer catalogue (block_in old.query 1) old.lengths)
 
-  abbrev Asks : Result (List Answer) PlainFault → Type 0
+  abbrev Asks : Result (List RankRow) PlainFault → Type 0
   Asks result = Inquires Memory (asking plain_faults before.answer catalogue questions (first_rows before.answer)) result before after
 
   -- the catalogue was seen as it is
-  pub Asks-seen : (seen : CatalogDef) (most : ℕ) (result : Result (List Answer) PlainFault) → seen ≡ catalogue → most ≡ most_kept old.query
-      → Inquires Memory (asking plain_faults before.answer seen (fresh_questions seen (block_in old.query 1) old.lengths) (take most (by_score (fresh_rows before.answer seen (block_in old.query 1) old.lengths))))
+  pub Asks-seen : (seen : CatalogDef) (most : ℕ) (result : Result (List RankRow) PlainFault) → seen ≡ catalogue → most ≡ most_kept old.query
+      → Inquires Memory (asking plain_faults before.answer seen (fresh_questions seen (block_in old.query 1) old.lengths) (first_scored most (fresh_rows before.answer seen (block_in old.query 1) old.lengths)))
       result before after
       → Asks result
   Asks-seen seen most result same many inquired =
-      subst (λ (n : ℕ). Inquires Memory (asking plain_faults before.answer catalogue questions (take n (by_score (fresh_rows before.answer catalogue (block_in old.query 1) old.lengths)))) result before after) many
-      (subst (λ (s : CatalogDef). Inquires Memory (asking plain_faults before.answer s (fresh_questions s (block_in old.query 1) old.lengths) (take most (by_score (fresh_rows before.answer s (block_in old.query 1) old.lengths))))
+      subst (λ (n : ℕ). Inquires Memory (asking plain_faults before.answer catalogue questions (first_scored n (fresh_rows before.answer catalogue (block_in old.query 1) old.lengths))) result before after) many
+      (subst (λ (s : CatalogDef). Inquires Memory (asking plain_faults before.answer s (fresh_questions s (block_in old.query 1) old.lengths) (first_scored most (fresh_rows before.answer s (block_in old.query 1) old.lengths)))
       result before after) same inquired)
 
   -- the answers of the scorer stay
@@ -71,23 +72,23 @@ module _ (catalogue : CatalogDef) (old : ViewDef) (before after : ScorerState) (
   pub Grown-failed : (new : ViewDef) (result : Result (Unit {0}) PlainFault) (fault : PlainFault) → result ≡ Err fault → new ≡ old → Asks (Err fault) → Grown catalogue old new result before after
   Grown-failed new result fault is same inquired =
       refused new result fault is same inquired.keeps.answer
-      (Failed-behind plain_faults Memory catalogue {A = List Answer} {B = ViewDef} [] questions [] questions first_rows (whole_view before.answer catalogue old.query) fault (Err fault) before before after
+      (Failed-behind plain_faults Memory catalogue {A = List RankRow} {B = ViewDef} [] questions [] questions first_rows (whole_view before.answer catalogue old.query) fault (Err fault) before before after
       (sym (append-nil questions)) refl (AllAsked-none before.answer catalogue before) inquired)
       (fresh-named catalogue old.query old.lengths (first_rows before.answer) fault before after stood.query stood.keepable inquired)
 
   -- there was no memory for the new rows
-  pub Grown-stopped : (new : ViewDef) (result : Result (Unit {0}) PlainFault) (more : List Answer) → result ≡ Err Memory → new ≡ old → Asks (Ok more) → Grown catalogue old new result before after
+  pub Grown-stopped : (new : ViewDef) (result : Result (Unit {0}) PlainFault) (more : List RankRow) → result ≡ Err Memory → new ≡ old → Asks (Ok more) → Grown catalogue old new result before after
   Grown-stopped new result more is same inquired =
       let gave = Gave-ok plain_faults Memory before.answer catalogue questions (first_rows before.answer) more before after inquired in
       refused new result Memory is same inquired.keeps.answer
       (Stopped-behind plain_faults Memory catalogue {A = ViewDef} questions (whole_view before.answer catalogue old.query) (Err Memory) before after refl gave.asked) tt
 
   -- the new rows joined
-  pub Grown-done : (new : ViewDef) (more : List Answer) → length old.lengths ≡ 6 → new.query ≡ old.query → new.lengths ≡ sizes_of catalogue (block_in old.query 1)
-      → Asks (Ok more) → AreFirst (most_kept old.query) (old.rows ++ more) new.rows → Grown catalogue old new (Ok tt) before after
+  pub Grown-done : (new : ViewDef) (more : List RankRow) → length old.lengths ≡ 6 → new.query ≡ old.query → new.lengths ≡ sizes_of catalogue (block_in old.query 1)
+      → Asks (Ok more) → AreFirst key_of_row (most_kept old.query) (old.rows ++ more) new.rows → Grown catalogue old new (Ok tt) before after
   Grown-done new more six same sizes inquired first =
       let gave = Gave-ok plain_faults Memory before.answer catalogue questions (first_rows before.answer) more before after inquired in
-      let rows : new.rows ≡ kept_rows before.answer catalogue old.query (sizes_of catalogue (block_in old.query 1)) =
+      let rows : new.rows ≡ map without_values (kept_rows before.answer catalogue old.query (sizes_of catalogue (block_in old.query 1))) =
       kept-grown before.answer catalogue old.query old.lengths old.rows more new.rows stood.query stood.keepable six stood.lengths stood.rows gave.is_value first in
       let whole : new ≡ whole_view before.answer catalogue old.query = λ i. record { query = same i; lengths = sizes i; rows = rows i } in
       record {
@@ -99,7 +100,7 @@ module _ (catalogue : CatalogDef) (old : ViewDef) (before after : ScorerState) (
       }
 
 -- a view of no rows stands
-pub Stands-none : (answer : Answering) (catalogue : CatalogDef) (query : Query) (rows : List Answer) → rows ≡ [] → IsQuery catalogue query → IsKeepable query
+pub Stands-none : (answer : Answering) (catalogue : CatalogDef) (query : Query) (rows : List RankRow) → rows ≡ [] → IsQuery catalogue query → IsKeepable query
     → Stands answer catalogue (record { query = query; lengths = no_lengths; rows = rows })
 Stands-none answer catalogue query rows none formed all = record {
   query = formed;
@@ -109,7 +110,7 @@ Stands-none answer catalogue query rows none formed all = record {
 }
 
 -- a growth from no rows makes the view
-pub Makes-grown : (catalogue : CatalogDef) (query : Query) (rows : List Answer) (result : Result ViewDef PlainFault) (before after : ScorerState) → IsQuery catalogue query → IsKeepable query
+pub Makes-grown : (catalogue : CatalogDef) (query : Query) (rows : List RankRow) (result : Result ViewDef PlainFault) (before after : ScorerState) → IsQuery catalogue query → IsKeepable query
     → Inquires Memory (growing before.answer catalogue (record { query = query; lengths = no_lengths; rows = rows })) result before after
     → Inquires Memory (making before.answer catalogue query) result before after
 Makes-grown catalogue query rows result before after formed all inquired =

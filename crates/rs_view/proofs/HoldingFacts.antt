@@ -1,6 +1,6 @@
 -- Views have their answers: when they are made, behind a growth, and as a catalogue grows without new rows; and what a plain evaluation of their query with
 -- another LIMIT gives.
-use Rattle.std.proofs.Common.{ℕ, zero, suc, ◌≡◌, ◌∙◌, ◌≤◌, List, [], ◌∷◌, min, take, refl, sym, ap, subst, arith}
+use Rattle.std.proofs.Common.{ℕ, zero, suc, ◌≡◌, ◌∙◌, ◌≤◌, List, [], ◌∷◌, map, min, take, refl, sym, ap, subst, arith}
 use Rattle.std.specs.Prelude.{Option, Some, None, Ok, unwrap_or}
 use Rattle.rs_rank.specs.Stable.{stable}
 use Rattle.rs_rank.specs.declared.answer.Answer.{Answer}
@@ -20,8 +20,9 @@ use Rattle.rs_query.proofs.GrowthFacts.{IsViewOf-all, query-grows}
 use Rattle.rs_plain.specs.Plain.{evaluation_of, plain_faults, questions_of}
 use Rattle.rs_view.specs.Fresh.{fresh_questions, making, whole_view}
 use Rattle.rs_view.specs.Holding.{HasItsAnswer, limited}
-use Rattle.rs_view.specs.Views.{IsKeepable, ViewDef, kept_rows, most_kept}
+use Rattle.rs_view.specs.Views.{IsKeepable, ViewDef, kept_rows, most_kept, rows_in, without_values}
 use Rattle.rs_view.proofs.CallFacts.{fresh-none}
+use Rattle.rs_view.proofs.RowFacts.{ids-back, kept-values}
 use Rattle.rs_view.proofs.LifeFacts.{IsGood, first-none, good-behind, none-first}
 
 module _ (answer : Answering) (catalogue : CatalogDef) where
@@ -46,19 +47,20 @@ module _ (answer : Answering) (catalogue : CatalogDef) where
     query = formed;
     keepable = keepable;
     lengths = refl;
-    rows = refl;
+    rows = kept-values answer catalogue (One block limit) (sizes_of catalogue block) keepable;
     well = well-asked (questions_of catalogue (One block limit) (all_rows catalogue (One block limit))) (answer_of answer catalogue (One block limit) (all_rows catalogue (One block limit))) good;
   }
   whole-has (Set op left right limit) formed keepable good = absurd keepable
 
   -- a view that has its answer is the one over all rows
-  rows-whole : (query : Query) → IsKeepable query → take (most_kept query) (answer_of answer catalogue query (all_rows catalogue query)) ≡ (whole_view answer catalogue query).rows
+  rows-whole : (query : Query) → IsKeepable query → map without_values (take (most_kept query) (answer_of answer catalogue query (all_rows catalogue query))) ≡ (whole_view answer catalogue query).rows
   rows-whole (One block limit) keepable = refl
   rows-whole (Set op left right limit) keepable = absurd keepable
 
   has-whole : (view : ViewDef) → HasItsAnswer answer catalogue view → view ≡ whole_view answer catalogue view.query
   has-whole view has =
-      let rows : view.rows ≡ (whole_view answer catalogue view.query).rows = has.rows ∙ rows-whole view.query has.keepable in
+      let rows : view.rows ≡ (whole_view answer catalogue view.query).rows =
+      sym (ids-back catalogue (block_in view.query 1) view.rows) ∙ ap (map without_values) has.rows ∙ rows-whole view.query has.keepable in
       λ i. record { query = view.query; lengths = has.lengths i; rows = rows i }
 
   -- a view that was made
@@ -96,8 +98,8 @@ module _ (answer : Answering) (old new : CatalogDef) (grows : CatalogueGrows old
   whole-same (One block limit) formed keepable same =
       let query = One block limit in
       let rows = answer_of-grows old new grows answer query (all_rows old query) formed (IsViewOf-all old query formed) in
-      ap (λ sizes. record { query = query; lengths = sizes; rows = kept_rows answer new query sizes }) same
-      ∙ ap (λ first. record { query = query; lengths = sizes_of old block; rows = take (most_kept query) first }) rows
+      ap (λ sizes. record { query = query; lengths = sizes; rows = map without_values (kept_rows answer new query sizes) }) same
+      ∙ ap (λ first. record { query = query; lengths = sizes_of old block; rows = map without_values (take (most_kept query) first) }) rows
   whole-same (Set op left right limit) formed keepable same = absurd keepable
 
   pub still-has : (view : ViewDef) → HasItsAnswer answer old view → sizes_of new (block_in view.query 1) ≡ sizes_of old (block_in view.query 1) → HasItsAnswer answer new view
@@ -147,7 +149,7 @@ module _ (answer : Answering) (catalogue : CatalogDef) where
   limited-query view n has = limited-formed view.query n has.keepable has.query
 
   pub limited-has : (view : ViewDef) (n : ℕ) → HasItsAnswer answer catalogue view
-      → (evaluation_of answer catalogue (limited (min n (most_kept view.query)) view.query) (all_rows catalogue (limited (min n (most_kept view.query)) view.query))).outcome ≡ Ok (take n view.rows)
+      → (evaluation_of answer catalogue (limited (min n (most_kept view.query)) view.query) (all_rows catalogue (limited (min n (most_kept view.query)) view.query))).outcome ≡ Ok (take n (rows_in catalogue view))
   limited-has view n has =
       let query = view.query in
       let fewer = limited (min n (most_kept query)) query in

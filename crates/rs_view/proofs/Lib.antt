@@ -5,6 +5,8 @@ pub mod GrowFacts
 pub mod HoldingFacts
 pub mod LifeFacts
 pub mod MergeFacts
+pub mod MergedFacts
+pub mod PieceFacts
 pub mod RowFacts
 pub mod SplitFacts
 pub mod StandFacts

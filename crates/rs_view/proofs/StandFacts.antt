@@ -1,5 +1,5 @@
 -- When views stand: as their catalogue grows, over all rows, and over no rows.
-use Rattle.std.proofs.Common.{ℕ, ◌∙◌, List, [], take, refl, sym, ap}
+use Rattle.std.proofs.Common.{ℕ, ◌∙◌, List, [], map, take, refl, sym, ap}
 use Rattle.rs_expr.specs.Scoring.{Answering}
 use Rattle.rs_catalog.specs.Catalog.{CatalogDef}
 use Rattle.rs_query.specs.Blocks.{block_in}
@@ -11,7 +11,7 @@ use Rattle.rs_query.specs.declared.query.Query.TheVariants.{One, Set}
 use Rattle.rs_query.proofs.BlockFacts.{block-formed}
 use Rattle.rs_query.proofs.GrownAnswerFacts.{answer_of-grows}
 use Rattle.rs_query.proofs.GrowthFacts.{IsSizes-all, query-grows, view-grows}
-use Rattle.rs_view.specs.Views.{IsKeepable, Stands, ViewDef, most_kept, view_of}
+use Rattle.rs_view.specs.Views.{IsKeepable, Stands, ViewDef, most_kept, view_of, without_values}
 
 -- the lengths of a view of one block are a view of its query
 view-sizes : (catalogue : CatalogDef) (query : Query) (lengths : List ℕ) → IsKeepable query → IsSizes catalogue (block_in query 1) lengths
@@ -33,7 +33,7 @@ Stands-grown answer old new view grows stands =
       keepable = stands.keepable;
       lengths = sizes-view new view.query view.lengths stands.keepable (view-grows old new grows view.query (record { first = view.lengths; second = [] }) is);
       rows = stands.rows
-          ∙ ap (take (most_kept view.query)) (sym (answer_of-grows old new grows answer view.query (record { first = view.lengths; second = [] }) stands.query is));
+          ∙ ap (λ rows. map without_values (take (most_kept view.query) rows)) (sym (answer_of-grows old new grows answer view.query (record { first = view.lengths; second = [] }) stands.query is));
     }
 
 -- a view over all rows

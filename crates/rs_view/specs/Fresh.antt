@@ -1,11 +1,10 @@
 -- What a growth asks, and what comes of it.
 use Rattle.std.specs.Prelude.{ℕ, List, map, Result, Ok, Err}
 use Rattle.std.specs.List.{flat_map}
-use Rattle.rs_rank.specs.declared.answer.Answer.{Answer}
+use Rattle.rs_rank.specs.declared.row.RankRow.{RankRow}
 use Rattle.rs_expr.specs.InOrder.{Inquiry}
 use Rattle.rs_expr.specs.Scoring.{Answering}
 use Rattle.rs_catalog.specs.Catalog.{CatalogDef}
-use Rattle.rs_query.specs.Answers.{answer_row}
 use Rattle.rs_query.specs.Blocks.{block_in}
 use Rattle.rs_query.specs.Fresh.{fresh_combinations}
 use Rattle.rs_query.specs.Questions.{Question, asking}
@@ -13,6 +12,7 @@ use Rattle.rs_query.specs.Tables.{sizes_of}
 use Rattle.rs_query.specs.Views.{all_rows}
 use Rattle.rs_query.specs.declared.block.Block.{Block}
 use Rattle.rs_query.specs.declared.query.Query.{Query}
+use Rattle.rs_plain.specs.Keeping.{scored_for}
 use Rattle.rs_plain.specs.Plain.{plain_faults, questions_of, row_questions}
 use Rattle.rs_plain.specs.declared.fault.PlainFault.{PlainFault}
 use Rattle.rs_view.specs.Views.{ViewDef, view_of}
@@ -25,9 +25,9 @@ fresh catalogue block old = fresh_combinations catalogue block old (sizes_of cat
 abbrev pub fresh_questions : CatalogDef → Block → List ℕ → List Question
 fresh_questions catalogue block old = flat_map (row_questions 1 block) (fresh catalogue block old)
 
--- the rows that they make
-abbrev pub fresh_rows : Answering → CatalogDef → Block → List ℕ → List Answer
-fresh_rows answer catalogue block old = map (answer_row answer catalogue block 1) (fresh catalogue block old)
+-- the rows that they make, without output values
+abbrev pub fresh_rows : Answering → CatalogDef → Block → List ℕ → List RankRow
+fresh_rows answer catalogue block old = map (scored_for answer catalogue 1 block) (fresh catalogue block old)
 
 -- a view of a query over all rows that the tables have
 abbrev pub whole_view : Answering → CatalogDef → Query → ViewDef

@@ -12,7 +12,7 @@ use Rattle.rs_query.specs.declared.term.Term.{Term}
 use Rattle.rs_query.specs.declared.query.Query.{Query}
 use Rattle.rs_query.specs.declared.query.Query.TheVariants.{One, Set}
 use Rattle.rs_plain.specs.Plain.{evaluation_of}
-use Rattle.rs_view.specs.Views.{IsKeepable, ViewDef, most_kept}
+use Rattle.rs_view.specs.Views.{IsKeepable, ViewDef, most_kept, rows_in}
 
 -- the same query with this LIMIT
 abbrev pub limited : ℕ → Query → Query
@@ -24,7 +24,7 @@ pub record HasItsAnswer (answer : Answering) (catalogue : CatalogDef) (view : Vi
   pub query : IsQuery catalogue view.query
   pub keepable : IsKeepable view.query
   pub lengths : view.lengths ≡ sizes_of catalogue (block_in view.query 1)
-  pub rows : view.rows ≡ take (most_kept view.query) (answer_of answer catalogue view.query (all_rows catalogue view.query))
+  pub rows : rows_in catalogue view ≡ take (most_kept view.query) (answer_of answer catalogue view.query (all_rows catalogue view.query))
   pub well : (evaluation_of answer catalogue view.query (all_rows catalogue view.query)).outcome ≡ Ok (answer_of answer catalogue view.query (all_rows catalogue view.query))
 
 -- a query with no tops of its terms: 0 stands in place of each

@@ -12,13 +12,13 @@ ghost use Rattle.rs_view.specs.Fresh.{fresh_questions, fresh_rows};
 
 use rs_catalog::Snapshot;
 use rs_expr::Scorer;
-use rs_plain::{PlainFault, block_answers, scored_rows};
+use rs_plain::{PlainFault, scored_rows};
 use rs_query::{Query, block_in};
-use rs_rank::{Answer, sort_stably};
+use rs_rank::{RankRow, sort_stably};
 use std::alloc::Global;
 
 /// The first rows that the combinations of a query's block make of which some row is behind those of an old view, at most so many.
-/// All are scored. Output values are made for these first ones alone.
+/// All are scored.
 pub(crate) fn fresh_rows<S: Scorer>(
     alloc: Global,
     catalog: &Snapshot<'_>,
@@ -26,11 +26,11 @@ pub(crate) fn fresh_rows<S: Scorer>(
     old: &[u32; 6],
     most: u32,
     scorer: &mut S,
-) -> Result<Vec<Answer>, PlainFault>
+) -> Result<Vec<RankRow>, PlainFault>
     requires { IsQuery catalog.now query.now }
     ensures { Inquires PlainFault.Memory
         (asking plain_faults (S.state scorer.old).answer catalog.now (fresh_questions catalog.now (block_in query.now 1) old.now)
-        (take most (stable (λ row. row.score) (fresh_rows (S.state scorer.old).answer catalog.now (block_in query.now 1) old.now))))
+        (take most (stable (λ row. row.sum) (fresh_rows (S.state scorer.old).answer catalog.now (block_in query.now 1) old.now))))
         (as_list result) (S.state scorer.old) (S.state scorer.new) }
 {
     let block = block_in(query, 1);
@@ -38,5 +38,5 @@ pub(crate) fn fresh_rows<S: Scorer>(
     let mut scored = scored_rows(alloc, catalog, block, 1, &combinations, scorer)?;
     sort_stably(&mut scored)?;
     scored.truncate(most as usize);
-    Ok(block_answers(alloc, catalog, block, &scored)?)
+    Ok(scored)
 }

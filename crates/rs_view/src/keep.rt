@@ -1,28 +1,26 @@
 //! The first rows of those that a view has and of new ones.
 
 ghost use Rattle.std.specs.Prelude.{◌≡◌, ◌++◌, OnErr, OnOk};
-ghost use Rattle.rs_view.specs.Keeping.{AreFirst, AreKept};
+ghost use Rattle.rs_view.specs.Keeping.{AreFirst, AreKept, key_of_row};
 
-use rs_rank::{Answer, Key};
+use crate::merge::{key_of, merge_in};
+use rs_rank::RankRow;
 use rs_value::Memory;
 
 /// Puts new rows among those that there are, by falling scores and then by row numbers, and drops what is behind the first ones. The
-/// order is made in place. Where there is no memory for the new rows, nothing changes.
-pub(crate) fn keep_first(rows: &mut Vec<Answer>, more: Vec<Answer>, most: u32) -> Result<(), Memory>
-    requires { AreKept most rows.old.items }
-    ensures ok { OnOk result (AreFirst most (rows.old.items ++ more.items) rows.new.items) }
+/// new ones alone are sorted. Where there is no memory for them, nothing changes.
+pub(crate) fn keep_first(
+    rows: &mut Vec<RankRow>,
+    more: Vec<RankRow>,
+    most: u32,
+) -> Result<(), Memory>
+    requires { AreKept key_of_row most rows.old.items }
+    ensures ok { OnOk result (AreFirst key_of_row most (rows.old.items ++ more.items) rows.new.items) }
     ensures err { OnErr result (rows.new.items ≡ rows.old.items) }
 {
-    // A growth without new combinations costs no sort.
-    if more.is_empty() {
-        return Ok(());
-    }
     let mut more = more;
-    rows.append(&mut more)?;
-    rows.sort_unstable_by_key(|row| Key {
-        bound: row.score,
-        ids: row.ids,
-    });
+    more.sort_unstable_by_key(|row| key_of(row));
+    merge_in(rows, more)?;
     rows.truncate(most as usize);
     Ok(())
 }

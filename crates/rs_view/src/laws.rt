@@ -19,7 +19,7 @@ ghost use Rattle.rs_plain.specs.Plain.{evaluation_of};
 ghost use Rattle.rs_view.specs.Fresh.{fresh, growing, making};
 ghost use Rattle.rs_view.specs.Holding.{HasItsAnswer, limited};
 ghost use Rattle.rs_view.specs.Lives.{GrowInTurn, last_from, life_calls};
-ghost use Rattle.rs_view.specs.Views.{IsKeepable, Stands, ViewDef, most_kept};
+ghost use Rattle.rs_view.specs.Views.{IsKeepable, Stands, ViewDef, most_kept, rows_in};
 
 /// A view that stands for a catalogue stands for each one that it grows to. So it does behind each call that adds to the catalogue:
 /// `catalogues_grow` of rs_query has them.
@@ -60,5 +60,5 @@ pub fn views_have_their_answers()
         → HasItsAnswer answer new view }
     ensures limited { (answer : Answering) (catalogue : CatalogDef) (view : ViewDef) (wanted : ℕ) → HasItsAnswer answer catalogue view
         → (evaluation_of answer catalogue (limited (min wanted (most_kept view.query)) view.query)
-        (all_rows catalogue (limited (min wanted (most_kept view.query)) view.query))).outcome ≡ Ok (take wanted view.rows) }
+        (all_rows catalogue (limited (min wanted (most_kept view.query)) view.query))).outcome ≡ Ok (take wanted (rows_in catalogue view)) }
 {}

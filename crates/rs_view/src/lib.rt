@@ -8,6 +8,7 @@ mod fresh;
 mod keep;
 mod keepable;
 mod laws;
+mod merge;
 mod view;
 
 pub use keepable::is_keepable;

@@ -1,19 +1,21 @@
-ghost use Rattle.std.specs.Prelude.{◌≡◌, IfErr, IfOk, OnErr, OnOk};
+ghost use Rattle.std.specs.Prelude.{◌≡◌, drop, length, take, IfErr, IfOk, OnErr, OnOk};
 ghost use Rattle.rs_expr.specs.InOrder.{Inquires};
+ghost use Rattle.rs_expr.specs.Scoring.{Answering};
 ghost use Rattle.rs_plain.specs.Results.{NamesCalled};
 ghost use Rattle.rs_query.specs.Blocks.{block_in};
 ghost use Rattle.rs_query.specs.Tables.{sizes_of};
 ghost use Rattle.rs_query.specs.WellFormed.{IsQuery};
 ghost use Rattle.rs_view.specs.Fresh.{as_grown, growing, making};
-ghost use Rattle.rs_view.specs.Views.{IsKeepable, Stands, most_kept, view_of};
+ghost use Rattle.rs_view.specs.Views.{IsKeepable, Stands, most_kept, rows_in, view_of};
 
 use crate::fresh::fresh_rows;
 use crate::keep::keep_first;
 use rs_catalog::{Catalog, Snapshot};
 use rs_expr::Scorer;
-use rs_plain::PlainFault;
+use rs_plain::{PlainFault, block_answers};
 use rs_query::{Query, block_in, limit_of, sizes_of};
-use rs_rank::Answer;
+use rs_rank::{Answer, RankRow};
+use rs_value::Memory;
 use std::alloc::Global;
 use std::marker::Model;
 
@@ -27,7 +29,8 @@ pub struct View {
     query: Query,
     // How many rows each FROM entry had when the view was made or grew last, 0 past the last entry.
     lengths: [u32; 6],
-    rows: Vec<Answer>,
+    // Output values would take far more. They are made of the tables where rows are asked for.
+    rows: Vec<RankRow>,
 }
 
 impl Model for View {
@@ -116,11 +119,37 @@ impl View {
         Ok(())
     }
 
-    /// The rows, the first one first. It takes no memory.
-    pub fn rows(&self) -> &[Answer]
-        ensures { result.now ≡ self.now.rows }
+    /// How many rows the view has.
+    pub fn len(&self) -> usize
+        ensures { result ≡ length self.now.rows }
     {
-        &self.rows
+        self.rows.len()
+    }
+
+    /// The rows behind so many first ones, at most so many, with their output values.
+    ///
+    /// # Errors
+    ///
+    /// - `Memory`: at any call.
+    pub fn rows(
+        &self,
+        alloc: Global,
+        catalog: &Catalog,
+        from: usize,
+        most: usize,
+    ) -> Result<Vec<Answer>, Memory>
+        requires { (answer : Answering) × Stands answer catalog.now self.now }
+        ensures { IfOk result (λ rows. rows.items ≡ take most (drop from (rows_in catalog.now self.now))) }
+    {
+        let catalog = Snapshot::current(catalog);
+        let start = from.min(self.rows.len());
+        let end = start + most.min(self.rows.len() - start);
+        block_answers(
+            alloc,
+            &catalog,
+            block_in(&self.query, 1),
+            &self.rows[start..end],
+        )
     }
 
     /// How many rows the view has at most.

@@ -9,6 +9,7 @@ use Rattle.rs_feed_join.specs.Answers.{HasDrawn, IsNext, asks_of_cuts, draws_for
 use Rattle.rs_feed_join.specs.Joins.{FeedJoinState}
 use Rattle.rs_feed_join.specs.Sides.{FeedSide}
 use Rattle.rs_order.specs.Schedule.{SideAsk}
+use Rattle.rs_ripple.proofs.ScheduleFacts.{BeginsWith-itself}
 use Rattle.rs_events.specs.Environment.{Environment}
 use Rattle.rs_events.specs.Events.{Put}
 use Rattle.rs_events.specs.HaltFaults.{TellAs}
@@ -24,7 +25,7 @@ use Rattle.rs_words.specs.declared.fault.WordFault.TheVariants as word
 use Rattle.rs_words.specs.Drawing.{AreDrawn, DrawsAsCertified, DrawsAsPut, DrewUntil, StopsCertifying}
 use Rattle.rs_words.specs.Faults.{put_fault, put_faults}
 use Rattle.rs_words.specs.Feeding.{draws_run}
-use Rattle.rs_words.specs.Gathering.{GivesAll, StopsAtCall, StopsShort}
+use Rattle.rs_words.specs.Gathering.{GivesAll, StopsAtCall, StopsAtPair, StopsShort}
 use Rattle.rs_words.specs.Joining.{IsOfTables, join_fault}
 use Rattle.rs_words.specs.Lines.{pair_line}
 use Rattle.rs_words.specs.Putting.{PutsAll, PutsPairs, StopsAtJoin, StopsAtPut, draws_in_all, first_lines, pair_faults, pairs_of}
@@ -101,13 +102,23 @@ module _ (lefts rights : List FeedRow) (count : ℕ) (state : FeedJoinState) (le
   stops-certifying : (why : JoinFault) → IsOfTables why → StopsAtCall lefts rights count why state → StopsCertifying lefts rights count (join_fault why) left right
   stops-certifying why of stops = record { n = stops.n; within = stops.within; answered = stops.answered; drew = drew-until lefts rights stops.n state.left state.right left right why l r of stops.next }
 
+  stops-behind : StopsAtPair lefts rights count state → StopsCertifying lefts rights count word.Memory left right
+  stops-behind stops =
+      let made = draws_for lefts rights stops.n in record {
+        n = stops.n;
+        within = stops.within;
+        answered = stops.answered;
+        drew = record { made = made; begins = BeginsWith-itself made; drawn = drawn-feeds made stops.next.drawn };
+      }
+
   pub draws-short : (A : Type 0) (why : JoinFault) → IsOfTables why → StopsShort lefts rights count why state → DrawsAsCertified {A = A} lefts rights count (Err (join_fault why)) left right
   draws-short A (join.OutOfOrder side row before got) of (inl stops) = stops-certifying (join.OutOfOrder side row before got) of stops
   draws-short A (join.OutOfOrder side row before got) of (inr short) = absurd (let e = short.0 in cc)
   draws-short A (join.TooLong side) of stops = absurd of
   draws-short A (join.Failed side) of stops = absurd of
   draws-short A join.Memory of (inl stops) = inl (stops-certifying join.Memory of stops)
-  draws-short A join.Memory of (inr short) = inr (drawn-feeds (draws_in_all lefts rights count) short.1)
+  draws-short A join.Memory of (inr (short, inl stops)) = inl (stops-behind stops)
+  draws-short A join.Memory of (inr (short, inr stops)) = inr (drawn-feeds (draws_in_all lefts rights count) stops.drawn)
   draws-short A join.Broken of stops = absurd of
 
 -- where all of a certificate is drawn, also where its bytes or its put came to a fault

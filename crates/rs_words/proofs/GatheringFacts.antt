@@ -1,5 +1,5 @@
 -- The first pairs of two feeds, gathered one after another.
-use Rattle.std.proofs.Common.{ℕ, suc, ◌≡◌, ◌∙◌, ◌+◌, ◌<◌, ◌≤◌, ◌++◌, Bool, List, [], ◌∷◌, length, take, Option, Some, None, Result, Ok, Err, sym, ap, subst, inl, arith}
+use Rattle.std.proofs.Common.{ℕ, suc, ◌≡◌, ◌∙◌, ◌+◌, ◌<◌, ◌≤◌, ◌++◌, Bool, List, [], ◌∷◌, length, take, Option, Some, None, Result, Ok, Err, false, refl, sym, ap, subst, inl, inr, arith}
 use Rattle.std.proofs.lemmas.List.{length-append, map-append, take_all}
 use Rattle.rs_cert.specs.declared.cert.CertSide.{CertSide}
 use Rattle.rs_cert_join.specs.Certs.{AreGiven, cert_side, numbers_in}
@@ -8,16 +8,15 @@ use Rattle.rs_feed.specs.Feeds.{FeedState}
 use Rattle.rs_feed_join.specs.declared.fault.JoinFault.{JoinFault}
 use Rattle.rs_feed_join.specs.declared.fault.JoinFault.TheVariants as join
 use Rattle.rs_feed_join.specs.declared.feed_pair.FeedPair.{FeedPair}
-use Rattle.rs_feed_join.specs.Answers.{HasDrawn, IsNext, MayBe, draws_for, next_answer}
+use Rattle.rs_feed_join.specs.Answers.{HasDrawn, IsNext, MayBe, next_answer}
 use Rattle.rs_feed_join.specs.Cuts.{cut}
 use Rattle.rs_feed_join.specs.Joins.{FeedJoinState, IsAfter, new_feed_join, pairs_drawn}
 use Rattle.rs_feed_join.specs.Ranked.{asks_of_rows}
 use Rattle.rs_feed_join.specs.Sides.{FeedSide, IsCounted, IsDrawnOf}
 use Rattle.rs_order.proofs.PartFacts.{take-snoc}
-use Rattle.rs_ripple.proofs.ScheduleFacts.{BeginsWith-itself}
 use Rattle.rs_words.specs.Gathering.{GivesAll, StopsShort, draws_shown}
 use Rattle.rs_words.specs.Putting.{AreAnswered, pairs_of}
-use Rattle.rs_words.proofs.PuttingFacts.{answer-pair, answered-end, answered-all, answered-next, drawn-all, drawn-end, drawn-next, gave-all, gave-next, may-before, may-well, next-drawn, next-is, went_well}
+use Rattle.rs_words.proofs.PuttingFacts.{answer-pair, answered-end, answered-all, answered-next, drawn-all, drawn-end, drawn-next, gave-all, gave-next, lines-all, lines-end, may-before, may-well, next-drawn, next-is, went_well}
 
 -- n pairs were given, and the draws are those that they take
 pub record Gathered (lefts rights : List FeedRow) (n : ℕ) (pairs : List (ℕ × ℕ)) (left right : FeedSide) : Type 0 where
@@ -82,13 +81,18 @@ module _ (lefts rights : List FeedRow) (old new : FeedJoinState) (n : ℕ) (give
 
     -- and there was no memory for it
     pub gathered-short : (count : ℕ) → n < count → StopsShort lefts rights count join.Memory new
-    gathered-short count within = inl (record {
-      n = n;
-      within = within;
-      gave = was.gave;
-      answered = was.answered;
-      next = record { made = draws_for lefts rights n; begins = BeginsWith-itself (draws_for lefts rights n); drawn = now.drawn };
-    })
+    gathered-short count within = inr (
+      refl,
+      inl (record {
+        n = n;
+        within = within;
+        answered = was.answered;
+        pair = pair;
+        next = now;
+        given = after.given ∙ ap suc given;
+        whole = after.broken;
+      }),
+    )
 
   -- it gave none
   module _ (after : IsAfter old new (Ok None)) (left : MayBe 1 lefts new.left went_well) (right : MayBe 2 rights new.right went_well) (next : IsNext lefts rights old.given new.left new.right (Ok None)) where
@@ -101,6 +105,7 @@ module _ (lefts rights : List FeedRow) (old new : FeedJoinState) (n : ℕ) (give
           answered = answered-end lefts rights n count was.gave was.answered new.left new.right within is;
           pairs = was.are ∙ ap numbers_in (take_all n (pairs_of lefts rights) last ∙ sym (take_all count (pairs_of lefts rights) (omega (arith, last, within))));
           drawn = drawn-end lefts rights n count was.gave was.answered new.left new.right within is (next-drawn lefts rights n new.left new.right None now);
+          number = after.given ∙ given ∙ lines-end lefts rights n count was.gave was.answered new.left new.right within is;
         }
 
   -- it failed
@@ -108,15 +113,31 @@ module _ (lefts rights : List FeedRow) (old new : FeedJoinState) (n : ℕ) (give
       → (count : ℕ) → n < count → StopsShort lefts rights count why new
   gathered-stops why after left right next count within =
       let was = before (Err why) after left right next in
-      inl (record { n = n; within = within; gave = was.gave; answered = was.answered; next = here (Err why) after left right next })
+      inl (record {
+        n = n;
+        within = within;
+        gave = was.gave;
+        answered = was.answered;
+        next = here (Err why) after left right next;
+        given = after.given ∙ given;
+        broken = after.broken;
+      })
 
 -- as many as were wanted were given
-pub gathered-wanted : (lefts rights : List FeedRow) (count n : ℕ) (pairs : List (ℕ × ℕ)) (state : FeedJoinState) → n ≡ count → Gathered lefts rights n pairs state.left state.right → GivesAll lefts rights count pairs state
-gathered-wanted lefts rights count n pairs state all so_far = record {
+pub gathered-wanted : (lefts rights : List FeedRow) (count n : ℕ) (pairs : List (ℕ × ℕ)) (state : FeedJoinState) → n ≡ count → state.given ≡ n → Gathered lefts rights n pairs state.left state.right
+    → GivesAll lefts rights count pairs state
+gathered-wanted lefts rights count n pairs state all given so_far = record {
   answered = answered-all lefts rights n count so_far.gave so_far.answered state.left state.right all;
   pairs = so_far.are ∙ ap (λ m. numbers_in (take m (pairs_of lefts rights))) all;
   drawn = drawn-all lefts rights n count so_far.gave so_far.answered state.left state.right all so_far.drawn;
+  number = given ∙ lines-all lefts rights n count so_far.gave so_far.answered state.left state.right all;
 }
+
+-- they were, and there was no memory for the certificate
+pub given-short : (lefts rights : List FeedRow) (count : ℕ) (pairs : List (ℕ × ℕ)) (state : FeedJoinState) → state.broken ≡ false → GivesAll lefts rights count pairs state
+    → StopsShort lefts rights count join.Memory state
+given-short lefts rights count pairs state whole gives =
+    inr (refl, inr (record { answered = gives.answered; drawn = gives.drawn; given = gives.number; whole = whole }))
 
 -- no pair is given yet
 pub given-none : (state : FeedJoinState) (pairs : List (ℕ × ℕ)) → state ≡ new_feed_join → pairs ≡ [] → AreGiven state pairs

@@ -9,7 +9,7 @@ use Rattle.rs_feed_join.specs.declared.fault.JoinFault.TheVariants as join
 use Rattle.rs_feed_join.specs.declared.feed_pair.FeedPair.{FeedPair}
 use Rattle.rs_feed_join.specs.Answers.{HasDrawn, HasToldRefused, IsNext, MayBe, answer_by, asks_of_cuts, is_refused, next_answer}
 use Rattle.rs_feed_join.specs.Cuts.{HaveScores, cut}
-use Rattle.rs_feed_join.specs.Joins.{FeedJoinState, IsAfter, IsKept, new_feed_join}
+use Rattle.rs_feed_join.specs.Joins.{FeedJoinState, IsAfter, IsKept, IsRefusal, new_feed_join}
 use Rattle.rs_feed_join.specs.Parts.{new_parts}
 use Rattle.rs_feed_join.specs.Ranked.{asks_of_rows}
 use Rattle.rs_feed_join.specs.Sides.{FeedSide, IsCounted, IsDrawnOf}
@@ -115,37 +115,28 @@ leaves-then old new l0 l1 l2 r0 r1 r2 last a b = record {
 
 -- a call that went well, whatever it answered, also where there was no memory behind it
 module _ (state : FeedJoinState) (l0 l1 r0 r1 : FeedState) (pair : Option FeedPair) (well : JoinLeaves state l0 l1 r0 r1 (Ok pair)) where
-  pub leaves-well : JoinLeaves state l0 l1 r0 r1 went_well
-  leaves-well = record {
-    refused = tt;
-    left_refused = λ rows told. tt;
-    right_refused = λ rows told. tt;
-    unbroken = λ e. absurd cc;
+  leaves-as : (last : Result (Option FeedPair) JoinFault) → IsRefusal state last → HasToldRefused 1 l0.outside.told state.left last → HasToldRefused 2 r0.outside.told state.right last
+      → ((why : JoinFault) → last ≡ Err why → why ≡ join.Memory) → JoinLeaves state l0 l1 r0 r1 last
+  leaves-as last refused left_refused right_refused only = record {
+    refused = refused;
+    left_refused = left_refused;
+    right_refused = right_refused;
+    unbroken = λ e. absurd (let is = only join.Broken e in cc);
     kept = well.kept;
     counted = well.counted;
     left_drawn = well.left_drawn;
     right_drawn = well.right_drawn;
     left_told = well.left_told;
     right_told = well.right_told;
-    left_counts = counts-from l0.outside l1.outside well.left_counts (λ e. absurd cc);
-    right_counts = counts-from r0.outside r1.outside well.right_counts (λ e. absurd cc);
+    left_counts = counts-from l0.outside l1.outside well.left_counts (λ e. absurd (let is = only (join.Failed 1) e in cc));
+    right_counts = counts-from r0.outside r1.outside well.right_counts (λ e. absurd (let is = only (join.Failed 2) e in cc));
   }
 
+  pub leaves-well : JoinLeaves state l0 l1 r0 r1 went_well
+  leaves-well = leaves-as went_well tt (λ rows told. tt) (λ rows told. tt) (λ why e. absurd cc)
+
   pub leaves-short : JoinLeaves state l0 l1 r0 r1 (ended_by join.Memory)
-  leaves-short = record {
-    refused = tt;
-    left_refused = λ rows told. tt;
-    right_refused = λ rows told. tt;
-    unbroken = λ e. absurd cc;
-    kept = well.kept;
-    counted = well.counted;
-    left_drawn = well.left_drawn;
-    right_drawn = well.right_drawn;
-    left_told = well.left_told;
-    right_told = well.right_told;
-    left_counts = counts-from l0.outside l1.outside well.left_counts (λ e. absurd cc);
-    right_counts = counts-from r0.outside r1.outside well.right_counts (λ e. absurd cc);
-  }
+  leaves-short = leaves-as (ended_by join.Memory) tt (λ rows told. tt) (λ rows told. tt) (λ why e. cc)
 
 -- what is so of all rows that feeds may have is so of those that they tell
 pub told-of : (P : List FeedRow → List FeedRow → Type 0) (state : FeedJoinState) (l0 l1 r0 r1 : FeedState) (last : Result (Option FeedPair) JoinFault) → JoinLeaves state l0 l1 r0 r1 last

@@ -5,12 +5,14 @@ use Rattle.rs_outside.specs.declared.files.FetchFault.TheVariants as fetch
 use Rattle.rs_table.specs.declared.fault.TableFault.{TableFault}
 use Rattle.rs_table.specs.declared.fault.TableFault.TheVariants as table
 use Rattle.rs_table_feed.specs.declared.range_fault.RangeFault.{RangeFault}
+use Rattle.rs_cert.specs.declared.fault.CertFault.{CertFault}
+use Rattle.rs_cert.specs.declared.fault.CertFault.TheVariants as cert
 use Rattle.rs_expr.specs.declared.scorer.Call.{Call}
 use Rattle.rs_events.specs.HaltFaults.{HaltFaults}
 use Rattle.rs_words.specs.declared.fault.PutFault.{PutFault}
 use Rattle.rs_words.specs.declared.fault.PutFault.TheVariants as put
 use Rattle.rs_words.specs.declared.fault.WordFault.{WordFault}
-use Rattle.rs_words.specs.declared.fault.WordFault.TheVariants.{Memory, Range, Read, Table, Write}
+use Rattle.rs_words.specs.declared.fault.WordFault.TheVariants.{CertForm, Memory, Range, Read, Table, Write}
 
 -- with which faults the halts of puts are told. A word calls no scorer
 abbrev pub put_faults : HaltFaults WordFault
@@ -49,6 +51,11 @@ read_fault file fetch.Failed = Read file fetch.Failed
 abbrev pub table_fault : ℕ → TableFault → WordFault
 table_fault file table.Memory = Memory
 table_fault file why = Table file why
+
+-- why the only file is no certificate
+abbrev pub cert_fault : CertFault → WordFault
+cert_fault (cert.Form place) = CertForm place
+cert_fault cert.Memory = Memory
 
 abbrev pub or_read : {A : Type 0} → ℕ → Result A FetchFault → Result A WordFault
 or_read file (Ok a) = Ok a

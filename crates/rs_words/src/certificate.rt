@@ -1,4 +1,4 @@
-ghost use Rattle.std.specs.Prelude.{◌≡◌, [], ◌∷◌, ◌++◌, List, Some, IfOk, MatchResult, OnOk, false};
+ghost use Rattle.std.specs.Prelude.{◌≡◌, ◌⊎◌, [], ◌∷◌, ◌++◌, List, Some, IfOk, MatchResult, false, is_ok, true, if◌then◌else◌};
 ghost use Rattle.rs_cert.specs.Good.{IsGood};
 ghost use Rattle.rs_cert_join.specs.Certs.{AreEnough, AreGiven, cert_of};
 ghost use Rattle.rs_feed.specs.declared.feed_row.FeedRow.{FeedRow};
@@ -26,10 +26,13 @@ use std::alloc::Global;
 ///
 /// # Errors
 ///
+/// With each fault but `Memory` the join is broken.
+///
 /// - `OutOfOrder`, `TooLong`: exactly where the join comes to a row that it refuses, and no call failed before.
 /// - `Failed`: only where that feed's count of faults rose.
 /// - `Broken`: never.
-/// - `Memory`: at any call. It was drawn what the first pairs take and a front of what the next one takes.
+/// - `Memory`: at any call. Where a call of the join had none, the join is broken, and it was drawn what the first pairs
+///   take and a front of what the next one takes. Else it isn't broken, and the draws are those that its pairs take.
 pub fn certify<L: Feed, R: Feed>(
     alloc: Global,
     join: &mut FeedJoin,
@@ -55,7 +58,7 @@ pub fn certify<L: Feed, R: Feed>(
 
     // What is left.
     ensures leaves { JoinLeaves join.new (L.state left.old) (L.state left.new) (R.state right.old) (R.state right.new) (last_call result) }
-    ensures whole { OnOk result (join.new.broken ≡ false) }
+    ensures whole { MatchResult result (λ _. join.new.broken ≡ false) (λ why. (why ≡ JoinFault.Memory) ⊎ (join.new.broken ≡ true)) }
 {
     let pairs = first_pairs(alloc, join, count, left, right)?;
     Ok(rs_cert_join::cert_of(alloc, join, count, &pairs)?)
@@ -77,7 +80,7 @@ fn first_pairs<L: Feed, R: Feed>(
     ensures given { IfOk result (λ pairs. AreGiven join.new pairs.items) }
     ensures enough { IfOk result (λ pairs. AreEnough join.new count pairs.items) }
     ensures leaves { JoinLeaves join.new (L.state left.old) (L.state left.new) (R.state right.old) (R.state right.new) (last_call result) }
-    ensures whole { OnOk result (join.new.broken ≡ false) }
+    ensures whole { MatchResult result (λ _. join.new.broken ≡ false) (λ why. (why ≡ JoinFault.Memory) ⊎ (join.new.broken ≡ true)) }
 {
     let mut pairs = Vec::new(alloc);
     for index in 0..count {
@@ -91,7 +94,7 @@ fn first_pairs<L: Feed, R: Feed>(
 
 /// Adds the numbers of the rows of a pair.
 fn add_numbers(pairs: &mut Vec<(u32, u32)>, pair: &FeedPair) -> Result<(), Memory>
-    ensures { OnOk result (pairs.new.items ≡ pairs.old.items ++ (pair.now.left, pair.now.right) ∷ []) }
+    ensures { pairs.new.items ≡ (if is_ok result then pairs.old.items ++ (pair.now.left, pair.now.right) ∷ [] else pairs.old.items) }
 {
     pairs.push((pair.left, pair.right))?;
     Ok(())

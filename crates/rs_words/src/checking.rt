@@ -5,6 +5,7 @@ ghost use Rattle.rs_outside.specs.Files.{finds_in};
 ghost use Rattle.rs_events.specs.Run.{lines_run};
 ghost use Rattle.rs_events.specs.Running.{Ran, Runs};
 ghost use Rattle.rs_words.specs.Checking.{IsCertIn, IsCheckRun, IsCheckedRun, verdict_line};
+ghost use Rattle.rs_words.specs.Faults as told;
 ghost use Rattle.rs_words.specs.Faults.{file_faults, put_faults};
 ghost use Rattle.rs_words.specs.FeedFiles.{file_limit};
 
@@ -59,8 +60,17 @@ fn cert_in(alloc: Global, bytes: &[u8]) -> Result<Cert, WordFault>
 {
     match read_cert(alloc, bytes) {
         Ok(cert) => Ok(cert),
-        Err(CertFault::Form { place }) => Err(WordFault::CertForm { place }),
-        Err(CertFault::Memory) => Err(WordFault::Memory),
+        Err(why) => Err(cert_fault(why)),
+    }
+}
+
+/// The fault of a file that is no certificate. Only want of memory is told as such.
+fn cert_fault(why: CertFault) -> WordFault
+    ensures { result ≡ told.cert_fault why }
+{
+    match why {
+        CertFault::Form { place } => WordFault::CertForm { place },
+        CertFault::Memory => WordFault::Memory,
     }
 }
 

@@ -1,11 +1,14 @@
 -- The statements that a script is read into.
-use Rattle.std.specs.Prelude.{List, refl, ℕ}
+use Rattle.std.specs.Prelude.{List, refl, ℕ, ◌≡◌}
 use Rattle.std.specs.Coded.{Coded, code_by, coded×, coded_list, coded_ℕ}
 use Rattle.rs_syntax.specs.Syntax.{commands_of}
 use Rattle.rs_syntax.specs.Written.{AreWritten}
 use Rattle.rs_syntax.specs.contracts.statement.Statement as statement
 use Rattle.rs_syntax.specs.declared.statement.Statement.{Statement}
 use Rattle.rs_statement.specs.declared.fault.Fault.{Fault}
+use Rattle.rs_statement.specs.declared.fault.Fault.TheVariants.{Memory}
+use Rattle.rs_statement.specs.Steps.{statement_faults}
+use Rattle.rs_events.specs.HaltFaults.{HaltFaults}
 use Rattle.rs_events.specs.Run.{fails}
 use Rattle.rs_run.specs.Plain.{HasStatements, TextRuns, as_it_is}
 
@@ -22,6 +25,11 @@ pub record IsScriptRead (read : ScriptRead) : Type 0 where
 -- a text is refused with this fault, whatever statements do
 abbrev pub IsRefused : List ℕ → Fault → Type 0
 IsRefused text fault = TextRuns as_it_is (λ commands run. ⊥) text (fails fault)
+
+-- with which faults a script is run: those of statements, told so
+pub record TellScript {F : Type 0} (told : Fault → F) (faults : HaltFaults F) : Type 0 where
+  pub memory : told Memory ≡ faults.memory
+  pub failed_fetch : (name : List ℕ) (fault : Fault) → statement_faults.IsFailedFetch name fault → faults.IsFailedFetch name (told fault)
 
 -- how the logic stores it: as the tuple of its fields
 abbrev pub script_code : Coded ScriptRead

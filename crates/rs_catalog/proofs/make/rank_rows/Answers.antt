@@ -1,4 +1,4 @@
-use Rattle.std.proofs.Common.{◌∙◌, ap, length, map, subst, sym}
+use Rattle.std.proofs.Common.{ap, length, map, subst, sym}
 use Rattle.std.specs.Prelude.{Ok}
 use Rattle.rs_value.proofs.ResultFacts.{given-err}
 use Rattle.rs_expr.specs.InOrder.{Inquires}
@@ -22,30 +22,23 @@ returns-in_err-entries-clause-ranks g c =
 pub returns-clause-ranks : goal.returns-clause-ranks
 returns-clause-ranks g c =
     let scoring = scoring_of (g.S.Scorer.state c.args.scorer.now).answer c.args.predicate.now c.args.args.now c.args.table.now.rows in
-    subst (λ entries. Inquires Memory (ranked scoring) (Ok entries) (g.S.Scorer.state c.args.scorer.now) (g.S.Scorer.state c.score_rows.new.scorer)) (sym c.in_ok-sort_stably.ensures.ok)
+    subst (λ entries. Inquires Memory (ranked scoring) (Ok entries) (g.S.Scorer.state c.args.scorer.now) (g.S.Scorer.state c.score_rows.new.scorer)) (sym c.in_ok-of.ensures.ranking)
     (Inquires-ranked scoring c.in_ok-entries.entries.items _ _ c.in_ok-entries.ensures)
 
 pub returns-clause-ranking : goal.returns-clause-ranking
 returns-clause-ranking g c =
-    subst (IsRanking (length c.args.table.now.rows) c.args.predicate.now.max) (sym c.in_ok-sort_stably.ensures.ok)
+    subst (IsRanking (length c.args.table.now.rows) c.args.predicate.now.max) (sym c.in_ok-of.ensures.ranking)
     (IsRanking-stable _ _ c.args.table.now.rows c.in_ok-entries.entries.items (sym (InquiryEnds-ok _ _ _ _ _ c.in_ok-entries.ensures).gives))
 
-pub returns-in_err-sort_stably-clause-ranks : goal.returns-in_err-sort_stably-clause-ranks
-returns-in_err-sort_stably-clause-ranks g c =
+pub returns-in_err-of-clause-ranks : goal.returns-in_err-of-clause-ranks
+returns-in_err-of-clause-ranks g c =
     let scoring = scoring_of (g.S.Scorer.state c.args.scorer.now).answer c.args.predicate.now c.args.args.now c.args.table.now.rows in
     subst (λ result. Inquires Memory (ranked scoring) result (g.S.Scorer.state c.args.scorer.now) (g.S.Scorer.state c.score_rows.new.scorer))
-    (sym (ap as_ranked (given-err c.from_residual-in_err-sort_stably.result Memory c.from_residual-in_err-sort_stably.ensures)))
-    (Inquires-unsorted scoring c.in_ok-entries.entries.items _ _ c.in_ok-entries.ensures)
-
-pub returns-in_err-scores-clause-ranks : goal.returns-in_err-scores-clause-ranks
-returns-in_err-scores-clause-ranks g c =
-    let scoring = scoring_of (g.S.Scorer.state c.args.scorer.now).answer c.args.predicate.now c.args.args.now c.args.table.now.rows in
-    subst (λ result. Inquires Memory (ranked scoring) result (g.S.Scorer.state c.args.scorer.now) (g.S.Scorer.state c.score_rows.new.scorer))
-    (sym (ap as_ranked (given-err c.from_residual-in_err-scores.result Memory c.from_residual-in_err-scores.ensures)))
+    (sym (ap as_ranked (given-err c.from_residual-in_err-of.result Memory c.from_residual-in_err-of.ensures)))
     (Inquires-unsorted scoring c.in_ok-entries.entries.items _ _ c.in_ok-entries.ensures)
 
 pub returns-clause-scores : goal.returns-clause-scores
 returns-clause-scores g c =
-    subst (λ scores. AreScores c.sort_stably.new.rows.items scores) (sym (c.in_ok-scores.ensures ∙ ap (λ entries. map (λ (entry : ScoredRow). entry.score) entries) c.as_slice.ensures.value))
-    (subst (λ ranking. AreScores ranking (map (λ (entry : ScoredRow). entry.score) c.in_ok-entries.entries.items)) (sym c.in_ok-sort_stably.ensures.ok)
+    subst (AreScores c.in_ok-of.field-0.ranking.items) (sym c.in_ok-of.ensures.scores)
+    (subst (λ ranking. AreScores ranking (map (λ (entry : ScoredRow). entry.score) c.in_ok-entries.entries.items)) (sym c.in_ok-of.ensures.ranking)
     (AreScores-stable (λ row. (g.S.Scorer.state c.args.scorer.now).answer c.args.predicate.now (args_in c.args.args.now row)) c.args.predicate.now.max c.args.table.now.rows c.in_ok-entries.entries.items (sym (InquiryEnds-ok _ _ _ _ _ c.in_ok-entries.ensures).gives)))

@@ -1,34 +1,35 @@
-use Rattle.std.proofs.Common.{ℕ, ap, rules, sym}
-use Rattle.rs_value.proofs.ResultFacts.{given-err}
+use Rattle.std.proofs.Common.{◌≡◌, subst}
 use Rattle.rs_outside.specs.Files.{finds_in}
-use Rattle.rs_statement.specs.Session.{DoesInSession, StatementsRun, nothing}
+use Rattle.rs_events.specs.Running.{Runs}
+use Rattle.rs_statement.specs.Parts.Session.{cursors_of, held_in, state_of}
+use Rattle.rs_statement.specs.Session.{DoesInSession, State, StatementsRun, nothing}
 use Rattle.rs_statement.specs.Steps.{statement_faults}
-use Rattle.rs_statement.proofs.StatementFacts.{DoesInSession-finds}
-use Rattle.rs_run.specs.Plain.{as_it_is}
-use Rattle.rs_run.proofs.EachFacts.{each_statements, finds_in-has}
-use Rattle.rs_run.proofs.TextFacts.{RunOf-finds, Runs-of, Script-read, Script-unread, tells-as_it_is}
+use Rattle.rs_statement.proofs.StatementFacts.{DoesInSession-finds, some-step}
+use Rattle.rs_outside.proofs.ContentsFacts.{finds-before}
+use Rattle.rs_run.specs.Numbered.{NumberedRun, first_statement}
+use Rattle.rs_run.specs.Plain.{ScriptRuns, as_it_is}
+use Rattle.rs_run.proofs.NumberedFacts.{RunOf-unnumbered}
+use Rattle.rs_run.proofs.TextFacts.{ScriptRuns-turn}
 use Rattle.rs_run.proofs.plain.run_script.Goals as goal
 
-pub returns-in_err-script : goal.returns-in_err-script
-returns-in_err-script g c = λ beside.
-    let answer = (g.S.Scorer.state c.args.scorer.now).answer in
-    let finds = finds_in (g.F.Files.state c.args.files.now).contents in
-    rw (given-err c.from_residual.result c.in_err-script.field-0.0 c.from_residual.ensures)
-    (Script-unread as_it_is statement_faults tells-as_it_is c.args.name.now
-    (record beside { files = g.F.Files.state c.args.files.now; scorer = g.S.Scorer.state c.args.scorer.now; out = g.O.Sink.state c.args.out.now }) (g.F.Files.state c.fetch_script.new.files)
-    (StatementsRun finds answer c.args.evaluating) (each_statements finds (finds_in-has (g.F.Files.state c.args.files.now).contents) answer c.args.evaluating) c.in_err-script.field-0.0 c.in_err-script.ensures.fetches)
+pub interpret-done-requires-clause-dialect : goal.interpret-done-requires-clause-dialect
+interpret-done-requires-clause-dialect g c = record {
+  some = λ contents answer number. some-step contents answer c.args.evaluating;
+  less = λ old new stays answer number. DoesInSession-finds (finds_in new) (finds_in old) (finds-before old new stays) answer c.args.evaluating;
+}
 
 pub returns : goal.returns
 returns g c = λ beside.
-    let same = sym c.run_text.ensures.ran.keeps.references in
     let answer = (g.S.Scorer.state c.args.scorer.now).answer in
     let finds = finds_in (g.F.Files.state c.args.files.now).contents in
-    let later = finds_in (g.F.Files.state c.fetch_script.new.files).contents in
-    Script-read as_it_is statement_faults tells-as_it_is c.args.name.now
-    (record beside { files = g.F.Files.state c.args.files.now; scorer = g.S.Scorer.state c.args.scorer.now; out = g.O.Sink.state c.args.out.now }) (g.F.Files.state c.fetch_script.new.files)
-    (StatementsRun finds answer c.args.evaluating) (StatementsRun later answer c.args.evaluating)
-    (λ commands run more is. RunOf-finds (DoesInSession later answer c.args.evaluating) (DoesInSession finds answer c.args.evaluating)
-    (λ state command step does. DoesInSession-finds later finds more answer c.args.evaluating state command step does) nothing commands run is)
-    c.in_ok-script.script c.run_text.result
-    _ c.in_ok-script.ensures.fetches (Runs-of _ c.run_text.result _ _ beside _ _ _ (search (rules, ap (λ (r : ℕ × ℕ × ℕ). r.0) same)) (search (rules, ap (λ (r : ℕ × ℕ × ℕ). r.1) same))
-    (search (rules, ap (λ (r : ℕ × ℕ × ℕ). r.2) same)) c.run_text.ensures)
+    let does = DoesInSession finds answer c.args.evaluating in
+    let starts : state_of c.new.result (held_in c.new-2.result) ≡ nothing = λ i. record { catalogue = c.new.ensures i; cursors = cursors_of (c.new-2.ensures i) } in
+    let runs = subst (λ (state : State). Runs statement_faults (ScriptRuns as_it_is finds (NumberedRun (λ number. does) (first_statement state)) c.args.name.now) c.interpret-done.result
+    (record beside { files = g.F.Files.state c.args.files.now; scorer = g.S.Scorer.state c.args.scorer.now; out = g.O.Sink.state c.args.out.now })
+    (record beside { files = g.F.Files.state c.interpret-done.new.files; scorer = g.S.Scorer.state c.interpret-done.new.scorer; out = g.O.Sink.state c.interpret-done.new.out }))
+    starts (c.interpret-done.ensures beside) in record {
+      run = runs.run;
+      is = ScriptRuns-turn as_it_is finds (NumberedRun (λ number. does) (first_statement nothing)) (StatementsRun finds answer c.args.evaluating)
+          (λ commands run is. RunOf-unnumbered does (first_statement nothing) commands run is) c.args.name.now runs.run runs.is;
+      ran = runs.ran;
+    }

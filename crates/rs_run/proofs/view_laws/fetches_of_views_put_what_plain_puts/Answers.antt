@@ -7,8 +7,8 @@ use Rattle.rs_run.proofs.view_laws.fetches_of_views_put_what_plain_puts.Goals as
 
 pub returns : goal.returns
 returns c = record {
-  puts = λ answer commands state count wanted name view written few leads number found.
-      let all = lead-have answer anything commands first_view_statement state written few tt leads in
+  puts = λ answer commands state count wanted name view written leads number found.
+      let all = lead-have answer anything commands first_view_statement state written tt leads in
       fetch-plain answer state.kept count name wanted view (named-has answer state.kept.catalogue name.text state.kept.views view all found) number found;
   place = λ there answer commands state leads. lead-place answer (found_in there) commands first_view_statement state leads;
 }

@@ -13,13 +13,16 @@ use Rattle.rs_run.proofs.HeldFacts.{stand-step}
 use Rattle.rs_run.proofs.ViewSteps.{Stepped-beside_views, beside-does, kept-of_no_cursor, made-others}
 use Rattle.rs_run.proofs.viewing.run_kept.Goals as goal
 
+pub fetch_view-requires : goal.fetch_view-requires
+fetch_view-requires g c = ((g.W.Host.state c.args.host.now).scorer.answer, c.requires.stand)
+
 pub returns-in-Fetch : goal.returns-in-Fetch
 returns-in-Fetch g c =
     let old = g.W.Host.state c.args.host.now in
     let kept = kept_of c.args.catalog.now (views_in c.args.held.now) in record {
       does = rw g.met.W.Host.after_out (Stepped-is (DoesKept (finds_in old.files.contents) old.scorer.answer kept (command_of c.args.statement.now))
           (fetch_step kept c.in-Fetch.count c.in-Fetch.name) kept c.fetch_view.result old _ (rw c.in-Fetch.is refl)
-          (rw c.out.ensures.value at c.fetch_view.ensures old c.args.catalog.now));
+          (rw c.out.ensures.value at c.fetch_view.ensures old));
       indexes = if-ok c.fetch_view.result _ c.requires.indexes;
       stand = if-ok c.fetch_view.result _ c.requires.stand;
     }

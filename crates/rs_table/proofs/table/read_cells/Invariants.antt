@@ -1,9 +1,6 @@
-use Rattle.std.proofs.Common.{◌≡◌, ◌+◌, drop}
 use Rattle.csv.specs.Records.{fields_of}
-use Rattle.rs_table.specs.Appended.{appended}
-use Rattle.rs_table.specs.Reading.{cells_of}
+use Rattle.rs_table.proofs.ReadFacts.{AreRead}
 use Rattle.rs_table.proofs.table.read_cells.Given as goal
 
 abbrev pub invariant-loop-index : goal.invariant-loop-index
-invariant-loop-index l =
-    appended l.values.items (cells_of (drop l.index l.columns) l.row (l.index + 1) (drop l.index (fields_of l.record_))) ≡ cells_of l.columns l.row 1 (fields_of l.record_)
+invariant-loop-index l = AreRead l.columns l.row (fields_of l.record_) l.index l.initial.cells l.cells

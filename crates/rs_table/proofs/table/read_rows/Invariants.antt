@@ -1,15 +1,17 @@
-use Rattle.std.proofs.Common.{◌≡◌, ◌+◌, ◌-◌, ◌≤◌, ℕ, List, length, map}
+use Rattle.std.proofs.Common.{◌≡◌, ◌+◌, ◌-◌, ◌≤◌, ℕ, List, map}
 use Rattle.rs_value.specs.declared.kind.Kind.{Kind}
 use Rattle.rs_table.specs.Appended.{appended}
 use Rattle.rs_table.specs.Reading.{rows_from}
+use Rattle.rs_table.specs.Stored.{AreEven, cells_in, kinds_in, rows_across}
 use Rattle.rs_table.proofs.table.read_rows.Given as goal
 
-abbrev pub invariant-loop-rows : goal.invariant-loop-rows
-invariant-loop-rows l = record {
-  few : length l.rows.rows ≤ 131072;
-  kinds : l.rows.kinds ≡ map (λ (column : List ℕ × Kind). column.1) l.columns;
-  so_far : appended l.rows.rows (rows_from l.columns (length l.rows.rows + 1) l.records) ≡ rows_from l.columns 1 l.initial.records;
+abbrev pub invariant-loop-cells : goal.invariant-loop-cells
+invariant-loop-cells l = record {
+  few : l.len ≤ 131072;
+  kinds : kinds_in l.cells.items ≡ map (λ (column : List ℕ × Kind). column.1) l.columns;
+  even : AreEven l.len (cells_in l.cells.items);
+  so_far : appended (rows_across l.len (cells_in l.cells.items)) (rows_from l.columns (l.len + 1) l.records) ≡ rows_from l.columns 1 l.initial.records;
 }
 
-abbrev pub decreases-loop-rows : goal.decreases-loop-rows
-decreases-loop-rows l = 131073 - length l.rows.rows
+abbrev pub decreases-loop-cells : goal.decreases-loop-cells
+decreases-loop-cells l = 131073 - l.len

@@ -34,6 +34,9 @@ returns-in_err-pair-clause-leaves g c =
     (leaves-then c.loop-index.join c.next_pair.new.join (g.L.Feed.state c.args.left.now) (g.L.Feed.state c.loop-index.left) (g.L.Feed.state c.next_pair.new.left)
     (g.R.Feed.state c.args.right.now) (g.R.Feed.state c.loop-index.right) (g.R.Feed.state c.next_pair.new.right) _ c.loop-index.invariant.leaves c.in_err-pair.ensures.leaves)
 
+pub returns-in_err-pair-clause-whole : goal.returns-in_err-pair-clause-whole
+returns-in_err-pair-clause-whole g c = rw (given-err c.from_residual.result c.in_err-pair.field-0.0 c.from_residual.ensures) (inr c.in_err-pair.ensures.after.broken)
+
 pub returns-in_err-add_numbers-in-Some-clause-pairs : goal.returns-in_err-add_numbers-in-Some-clause-pairs
 returns-in_err-add_numbers-in-Some-clause-pairs g c =
     let join = c.next_pair.new.join in
@@ -125,7 +128,7 @@ returns-clause-pairs g c = λ lefts rights left right.
     let inv = c.loop-index.invariant in
     let n = c.loop-index.index in
     let all : n ≡ c.args.count = omega (arith, c.loop-index-test.false, c.loop-index.auto.index-end) in
-    gathered-wanted lefts rights c.args.count n c.loop-index.pairs.items c.loop-index.join all (inv.gathered lefts rights left right)
+    gathered-wanted lefts rights c.args.count n c.loop-index.pairs.items c.loop-index.join all inv.given (inv.gathered lefts rights left right)
 
 pub returns-clause-enough : goal.returns-clause-enough
 returns-clause-enough g c =

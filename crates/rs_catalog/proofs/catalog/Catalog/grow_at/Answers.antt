@@ -4,11 +4,11 @@ use Rattle.std.specs.Prelude.{Err, None, Ok, Result, Some}
 use Rattle.rs_value.proofs.ResultFacts.{given-err}
 use Rattle.rs_expr.specs.InOrder.{Inquires}
 use Rattle.rs_catalog.specs.Catalog.{RankIndex}
-use Rattle.rs_catalog.specs.Growing.{growing_index}
+use Rattle.rs_catalog.specs.Growing.{growing_index, with_entries}
 use Rattle.rs_catalog.specs.Grown.{IsGrown, as_renewed_or_same, index_in}
 use Rattle.rs_catalog.specs.declared.growth.GrowFault.{GrowFault}
 use Rattle.rs_catalog.specs.declared.growth.GrowFault.TheVariants.{Memory}
-use Rattle.rs_catalog.proofs.GrowAtFacts.{Inquires-other, Inquires-own, IsGrown-other, IsGrown-own, stored-of_table, stored-predicate, stored-same, stored-scores}
+use Rattle.rs_catalog.proofs.GrowAtFacts.{Inquires-other, Inquires-own, IsGrown-other, IsGrown-own, stored-of_table, stored-predicate, stored-same}
 use Rattle.rs_catalog.proofs.catalog.Catalog.grow_at.Goals as goal
 
 pub returns-then-index-table-clause-grows : goal.returns-then-index-table-clause-grows
@@ -35,7 +35,6 @@ grow_index-requires g c =
       fits = (c.requires.join.named.table.schema, (c.requires.join.fit, of_table.fits));
       few = omega arith;
       ranking = of_table.ranking;
-      scores = stored-scores c.self.inside.tables.entries c.self.inside.predicates.entries c.self.inside.indexes.entries c.self.invariant c.args.self.now c.self.view_is c.args.number c.index-index.result.now c.index-index.ensures;
     }
 
 pub returns-in_err-grow_index-clause-grows : goal.returns-in_err-grow_index-clause-grows
@@ -56,16 +55,16 @@ returns-clause-grows g c index at =
     let old = g.S.Scorer.state c.args.scorer.now in
     let new = g.S.Scorer.state c.grow_index.new.scorer in
     let stored = c.index-index.result.now in
-    let ranking = c.in_ok-grow_index.field-0.ranking.items in
+    let ranking = (with_entries c.in_ok-grow_index.field-0.ranking.items (index_in stored)).ranking in
     let of_table = stored-of_table c.self.inside.tables.entries c.self.inside.predicates.entries c.self.inside.indexes.entries c.self.invariant c.args.self.now c.self.view_is c.args.number c.index-index.result.now c.index-index.ensures c.args.table c.args.rows.now c.requires.join c.predicate-predicate.result.now c.if-index-table.false c.predicate-predicate.ensures in
     let asked : Inquires Memory (growing_index old.answer c.args.self.now c.args.table c.args.rows.now c.args.number (index_in stored)) (Ok (record { def = stored.def; ranking = ranking })) old new =
     Inquires-own c.args.self.now c.args.table c.args.rows.now stored c.predicate-predicate.result.now c.requires.join of_table old.answer c.args.number c.if-index-table.false (Ok (record { def = stored.def; ranking = ranking })) old new
     c.in_ok-grow_index.ensures.grows in
-    subst (λ (index : RankIndex). Inquires Memory (growing_index old.answer c.args.self.now c.args.table c.args.rows.now c.args.number index) (Ok (record { def = index.def; ranking = ranking })) old new) (stored-same c.self.inside.tables.entries c.self.inside.predicates.entries c.self.inside.indexes.entries c.self.invariant c.args.self.now c.self.view_is c.args.number c.index-index.result.now c.index-index.ensures index at) asked
+    subst (λ (index : RankIndex). Inquires Memory (growing_index old.answer c.args.self.now c.args.table c.args.rows.now c.args.number index) (Ok (with_entries c.in_ok-grow_index.field-0.ranking.items index)) old new) (stored-same c.self.inside.tables.entries c.self.inside.predicates.entries c.self.inside.indexes.entries c.self.invariant c.args.self.now c.self.view_is c.args.number c.index-index.result.now c.index-index.ensures index at) asked
 
 pub returns-clause-all : goal.returns-clause-all
 returns-clause-all g c index at =
     let stored = c.index-index.result.now in
     let of_table = stored-of_table c.self.inside.tables.entries c.self.inside.predicates.entries c.self.inside.indexes.entries c.self.invariant c.args.self.now c.self.view_is c.args.number c.index-index.result.now c.index-index.ensures c.args.table c.args.rows.now c.requires.join c.predicate-predicate.result.now c.if-index-table.false c.predicate-predicate.ensures in
     subst (λ (index : RankIndex). IsGrown c.args.self.now c.args.table (length c.args.rows.now) index (Some c.in_ok-grow_index.field-0)) (stored-same c.self.inside.tables.entries c.self.inside.predicates.entries c.self.inside.indexes.entries c.self.invariant c.args.self.now c.self.view_is c.args.number c.index-index.result.now c.index-index.ensures index at)
-    (IsGrown-own c.args.self.now c.args.table c.args.rows.now stored c.predicate-predicate.result.now c.requires.join of_table c.in_ok-grow_index.field-0 c.if-index-table.false c.in_ok-grow_index.ensures.ranking c.in_ok-grow_index.ensures.scores)
+    (IsGrown-own c.args.self.now c.args.table c.args.rows.now stored c.predicate-predicate.result.now c.requires.join of_table c.in_ok-grow_index.field-0 c.if-index-table.false c.in_ok-grow_index.ensures.ordered c.in_ok-grow_index.ensures.ranking c.in_ok-grow_index.ensures.scores)

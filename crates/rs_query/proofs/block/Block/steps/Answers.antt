@@ -1,11 +1,13 @@
 -- One entry more is in the mask, and the steps lead to all entries where there is no next one.
-use Rattle.std.proofs.Common.{ℕ, ◌≡◌, ◌∙◌, ◌-◌, ◌<◌, ◌≤◌, ◌^◌, ◌++◌, [], ◌∷◌, true, false, Some, length, bit_or, sym, ap, subst, inl, inr, arith}
+use Rattle.std.proofs.Common.{ℕ, ◌≡◌, ◌∙◌, ◌-◌, ◌<◌, ◌≤◌, ◌^◌, ◌++◌, [], ◌∷◌, true, false, None, Some, length, bit_or, sym, ap, subst, inl, inr, arith}
 use Rattle.std.specs.List.{AllByRecursion}
 use Rattle.std.specs.Prelude.{IfNone, IfSome, Option}
 use Rattle.rs_order.proofs.EachFacts.{each-push}
 use Rattle.rs_rank.specs.Masks.{has_number, mask_of}
+use Rattle.rs_query.specs.Pieces.{BeginsAt}
 use Rattle.rs_query.specs.Searching.{AreSteps, IsRanged}
 use Rattle.rs_query.proofs.MaskStepFacts.{all-numbers, grows, has-more, has-own, stays-below}
+use Rattle.rs_query.proofs.PieceFacts.{BeginsAt-more, BeginsAt-one}
 use Rattle.rs_query.proofs.StepsFacts.{AreSteps-push}
 use Rattle.rs_query.proofs.block.Block.steps.Goals as goal
 
@@ -47,6 +49,14 @@ loop-next-preserved c =
             subst (λ m. has_number m c.args.pivot ≡ true) (sym is) (subst (λ e. has_number (bit_or mask (mask_of entry)) e ≡ true) same (has-own mask entry))
         | inr has ↦ subst (λ m. has_number m c.args.pivot ≡ true) (sym is) (has-more mask entry c.args.pivot has)
       ]);
+      leads = inr (subst (BeginsAt c.args.pivot) (sym c.in_ok-push.ensures.items)
+          (elim old.leads [
+            | inl none ↦
+                let both : Some c.args.pivot ≡ Some entry = sym (old.first none.0) ∙ c.in-Some.is in
+                let same : entry ≡ c.args.pivot = cc in
+                BeginsAt-one c.args.pivot steps step none.1 (c.in_ok-step.ensures.entry ∙ same)
+            | inr begins ↦ BeginsAt-more c.args.pivot steps step begins
+          ]));
       first = λ none. absurd (omega arith);
       some = c.next_entry-next.ensures.some;
       none = c.next_entry-next.ensures.none;
@@ -58,3 +68,11 @@ returns-clause-steps c =
     let old = c.loop-next.invariant in
     let all = subst (λ (o : Option ℕ). IfNone o ((entry : ℕ) → 1 ≤ entry → entry ≤ count → has_number c.loop-next.mask entry ≡ true)) c.in_default.is old.none in
     subst (λ m. AreSteps c.args.catalog.now c.args.self.now 0 m c.loop-next.steps.items) (all-numbers c.loop-next.mask count old.below all) old.steps
+
+pub returns-clause-first : goal.returns-clause-first
+returns-clause-first c =
+    let old = c.loop-next.invariant in
+    elim old.leads [
+      | inl none ↦ absurd (let none_left : None ≡ Some c.args.pivot = sym c.in_default.is ∙ old.first none.0 in cc)
+      | inr begins ↦ begins
+    ]

@@ -21,10 +21,12 @@ pub returns-in_ok-listed-in-Some : goal.returns-in_ok-listed-in-Some
 returns-in_ok-listed-in-Some c =
     let kinds = equated-kinds c.args.catalog.now c.args.self.now c.args.mask c.args.entry c.in-Some.left c.in-Some.right c.requires.block c.in-Some.ensures in
     record {
-      left = kinds.0;
-      right = kinds.1;
-      left_kind = c.kind.ensures.cells;
-      right_kind = c.kind-in-Some.ensures.cells;
-      equated = c.in-Some.ensures;
+      columns = record {
+        left_column = kinds.0;
+        right_column = kinds.1;
+        left_kind = c.kind.ensures.cells;
+        right_kind = c.kind-in-Some.ensures.cells;
+        equated = c.in-Some.ensures;
+      };
       listed = c.in_ok-listed-in-Some.ensures;
     }

@@ -1,13 +1,13 @@
 use Rattle.std.proofs.Common.{ℕ, List, ◌≡◌, ◌∙◌, ◌++◌, refl, sym, ap, subst}
 use Rattle.std.specs.Prelude.{Ok}
-use Rattle.rs_rank.specs.declared.answer.Answer.{Answer}
+use Rattle.rs_rank.specs.declared.row.RankRow.{RankRow}
 use Rattle.rs_catalog.specs.Catalog.{CatalogDef}
 use Rattle.rs_query.specs.Tables.{sizes_of}
 use Rattle.rs_query.specs.WellFormed.{IsBlock, IsQuery}
 use Rattle.rs_query.proofs.BlockFacts.{block-formed}
 use Rattle.rs_plain.specs.declared.fault.PlainFault.TheVariants.{Memory}
 use Rattle.rs_value.proofs.ResultFacts.{given-err}
-use Rattle.rs_view.specs.Keeping.{AreFirst, AreKept}
+use Rattle.rs_view.specs.Keeping.{AreFirst, AreKept, key_of_row}
 use Rattle.rs_view.specs.Views.{Stands, ViewDef, most_kept}
 use Rattle.rs_view.proofs.GrowFacts.{Asks-seen, Grown, Grown-done, Grown-failed, Grown-stopped}
 use Rattle.rs_view.proofs.RowFacts.{kept-in_order}
@@ -29,7 +29,7 @@ keep_first-requires g c =
     let before = g.S.Scorer.state c.args.scorer.now in
     let stood = subst (Stands before.answer c.args.catalog.now) (sym c.self.view_is) c.requires in
     let many : c.most-most.result ≡ most_kept c.self.inside.query = first_of (cc (c.most-most.ensures), cc (c.most-most.ensures, ap (λ (v : ViewDef). most_kept v.query) (sym c.self.view_is))) in
-    subst (λ (most : ℕ). AreKept most c.self.inside.rows.items) (sym many)
+    subst (λ (most : ℕ). AreKept key_of_row most c.self.inside.rows.items) (sym many)
     (kept-in_order before.answer c.args.catalog.now c.self.inside.query c.self.inside.lengths c.self.inside.rows.items stood.rows)
 
 pub returns-in_err-more : goal.returns-in_err-more
@@ -56,7 +56,7 @@ returns-in_err-keep_first g c =
     let done = subst (λ (v : ViewDef). Grown c.args.catalog.now v new c.from_residual-in_err-keep_first.result before after) c.self.view_is
     (Grown-stopped c.args.catalog.now old before after stood new c.from_residual-in_err-keep_first.result c.in_ok-more.more.items
     (given-err c.from_residual-in_err-keep_first.result Memory c.from_residual-in_err-keep_first.ensures)
-    (ap (λ (rows : List Answer). record { query = c.self.inside.query; lengths = c.self.inside.lengths; rows = rows }) c.in_err-keep_first.ensures.err)
+    (ap (λ (rows : List RankRow). record { query = c.self.inside.query; lengths = c.self.inside.lengths; rows = rows }) c.in_err-keep_first.ensures.err)
     (Asks-seen c.args.catalog.now old before after stood c.current-catalog.result c.most-most.result _ c.current-catalog.ensures many c.in_ok-more.ensures)) in
     record { grows = done.grows; ok = done.ok; err = done.err; stands = done.stands; names = done.names }
 
@@ -72,5 +72,5 @@ returns g c =
     (Grown-done c.args.catalog.now old before after stood new c.in_ok-more.more.items c.self.invariant refl
     (c.sizes_of-lengths.ensures.value ∙ ap (λ (seen : CatalogDef). sizes_of seen c.block_in.result.now) c.current-catalog.ensures ∙ ap (sizes_of c.args.catalog.now) c.block_in.ensures)
     (Asks-seen c.args.catalog.now old before after stood c.current-catalog.result c.most-most.result _ c.current-catalog.ensures many c.in_ok-more.ensures)
-    (subst (λ (most : ℕ). AreFirst most (c.self.inside.rows.items ++ c.in_ok-more.more.items) c.keep_first.new.rows.items) many c.in_ok-keep_first.ensures.ok)) in
+    (subst (λ (most : ℕ). AreFirst key_of_row most (c.self.inside.rows.items ++ c.in_ok-more.more.items) c.keep_first.new.rows.items) many c.in_ok-keep_first.ensures.ok)) in
     record { grows = done.grows; ok = done.ok; err = done.err; stands = done.stands; names = done.names }
