@@ -17,8 +17,8 @@ import threading
 import time
 
 import asked_outside
-from asked_runs import (ASK, PLAIN, ROOT, ROWS, TRUE, USAGE, Answerer, Last, check, failures, fresh, run, true_score,
-    wanted_rows, with_true)
+from asked_runs import (ASK, PLAIN, ROOT, ROWS, TRUE, Answerer, Last, check, failures, fresh, run, true_score,
+    usage, wanted_rows, with_true)
 
 # An index that is asked for, and rows that join it. The last one has the arguments of a row of the file.
 GROWING = """CREATE TABLE t (n INT, name TEXT, v INT) FROM 't.csv';
@@ -208,10 +208,10 @@ def try_files(folder):
         check(name, got == (6, "", line, []), got)
     (folder / "scores.csv").unlink()
     got = run(folder, [], with_true)
-    check("too few words", got == (2, "", USAGE, []), got)
+    check("too few words", got == (2, "", usage(), []), got)
     for words in (["run", "s.sql"], ["run", "s.sql", "x"], ["plain"], ["gen", "1", "2"]):
         got = run(folder, words, with_true)
-        check(" ".join(words), got == (2, "", USAGE, []), got)
+        check(" ".join(words), got == (2, "", usage(), []), got)
     got = run(folder, ["run", "missing.sql", "1"], with_true)
     check("no script", got[0] == 3 and got[1] == "", got)
 

@@ -10,7 +10,7 @@ import subprocess
 import threading
 import time
 
-from asked_runs import ASK, PLAIN, USAGE, Answerer, check, fresh, run, true_score, with_true
+from asked_runs import ASK, PLAIN, Answerer, check, fresh, run, true_score, usage, with_true
 
 PLAIN_WORDS = ["plain", "s.sql"]
 RUN_WORDS = ["run", "s.sql", "1"]
@@ -60,7 +60,7 @@ def try_names(folder, wanted):
     for names in ("", "near,", ",near", "near, cheap", " near", "near ", "near,near"):
         fresh(folder, "0")
         got = ask(folder, names=names)
-        check(f"no names: '{names}'", got == (2, "", USAGE, []), got)
+        check(f"no names: '{names}'", got == (2, "", usage(), []), got)
     fresh(folder, "0", "CREATE TABLE t (n INT, name TEXT, v INT) FROM 't.csv';\n")
     got = ask(folder, words=PLAIN_WORDS, names="nears")
     check("a script that makes no predicate", got == (5, "", "ask: no predicate nears\n", []), got)

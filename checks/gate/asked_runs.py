@@ -25,9 +25,13 @@ SELECT n, name FROM t ORDER BY 2 * cheap(v) + near(n, name) LIMIT 5;
 """
 
 TRUE = "MAX(0, 60 - ABS(n - 23))"
-USAGE = "usage: ranksql_ask NAMES SCORES QUESTIONS ANSWERS run SCRIPT SEED, or plain SCRIPT behind ANSWERS\n"
 
 failures = []
+
+
+def usage():
+    """The usage line, as the program itself says it when it is called without words."""
+    return subprocess.run([ASK], stdin=subprocess.DEVNULL, capture_output=True, text=True, check=False).stderr
 
 
 def check(name, holds, said=""):

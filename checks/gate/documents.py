@@ -281,6 +281,13 @@ def manual():
              made.stderr.decode() or f"make it anew: {' '.join(['tools/manual.py', *words])} >{name}")
 
 
+def usage():
+    """docs/FORMATS.md, from which the manual page is made, shows the usage line that the program itself says."""
+    line = subprocess.run([PROGRAM], stdin=subprocess.DEVNULL, capture_output=True, text=True, check=False).stderr.rstrip("\n")
+    with open(os.path.join(ROOT, "docs/FORMATS.md"), encoding="utf-8") as document:
+        tell(line.startswith("usage: ranksql ") and f"`{line}`" in document.read(), "docs/FORMATS.md shows the usage line", line)
+
+
 def main():
     if not os.access(PROGRAM, os.X_OK):
         print(f"there is no program {PROGRAM}: ./ranksql builds it", file=sys.stderr)
@@ -291,6 +298,7 @@ def main():
         for name in documents():
             Document(name, folder).look()
         manual()
+    usage()
     print(f"{failures} things failed" if failures else "every document says what is printed")
     return 1 if failures else 0
 

@@ -8,13 +8,12 @@ export LC_ALL=C
 root=$(cd "$(dirname "$0")/../.." && pwd -P)
 built=$root/crates/ranksql/out/ranksql
 program=${RANKSQL:-$built}
-# The usage line is that of docs/FORMATS.md.
-# shellcheck disable=SC2016
-usage=$(grep -o '`usage: ranksql top [^`]*`' "$root/docs/FORMATS.md" | head -n 1 | tr -d '`')
 if [ ! -x "$program" ]; then
     echo "there is no program $program: ./ranksql builds it" >&2
     exit 1
 fi
+# The usage line is what the program says without words; documents.py compares it with docs/FORMATS.md.
+usage=$("$program" 2>&1 >/dev/null </dev/null)
 work=$(mktemp -d) || exit 1
 trap 'rm -rf "$work"' EXIT
 mkdir "$work/said" "$work/in"

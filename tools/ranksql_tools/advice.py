@@ -1,11 +1,11 @@
 """What a query will cost, and what to change so that it costs less."""
 
-from statistics import mean
 from typing import NamedTuple
 
 from .plans import all_combinations
 from .queries import arguments_of, entries_of, indexes_of, key_of_term, sources_of
 from .runner import Failed, TooLong
+from .script_text import shown
 from .table_file import name_in_script
 from .trials import Copy, call_of, combinations, greatest_score, rows_of_table
 
@@ -16,6 +16,12 @@ COST_OF_RANK_SCAN = 2
 MUCH_OF_A_SAMPLE = 4096
 # A lower MAX is proposed where the greatest score is at most this share of it.
 LOOSE_MAX = 0.8
+# A seed is proposed where the plan of another one costs more by more than this share of it.
+MUCH_BY_SEED = 0.2
+# A change is proposed where it saves at least this share of the cost.
+WORTH_A_CHANGE = 0.05
+# An index is proposed where it pays from fewer queries than so many.
+MOST_QUERIES = 100
 
 
 class Price(NamedTuple):
@@ -23,12 +29,21 @@ class Price(NamedTuple):
 
     calls: dict
 
-    def total(self):
-        return sum(self.calls.values())
-
     def cost(self, query):
         """The calls, each counted by the COST of its predicate."""
         return sum(calls * cost_of(query.predicate(name)) for name, calls in self.calls.items())
+
+    def text(self, query):
+        """The calls of each predicate. Free and dear ones are no one number, so where a COST is above 1, what is added is the cost."""
+        calls = [(name, count) for name, count in self.calls.items() if count]
+        if not calls:
+            return "no calls"
+        if len(calls) == 1:
+            return calls_of_one(*calls[0])
+        parts = [calls_of_one(*calls[0])] + ["%s of %s" % (number(count), shown(name)) for name, count in calls[1:]]
+        text = ", ".join(parts[:-1]) + " and " + parts[-1]
+        dear = any(cost_of(query.predicate(name)) > 1 for name, _ in calls)
+        return text + (", which cost %s" % number(self.cost(query)) if dear else "")
 
 
 class Case:
@@ -65,13 +80,36 @@ class Case:
             calls[name] = calls.get(name, 0) + count
         return Price(calls)
 
-    def mean_cost(self, trials=None):
-        """The cost of a plan's calls in the mean of the seeds."""
-        return mean(self.price_of(trial).cost(self.query) for trial in (trials or self.trials).values())
+    def best(self, trials=None):
+        """The seed whose plan costs least, the first of these. Whoever runs the query may take it, so changes are weighed by it."""
+        trials = trials or self.trials
+        return min(self.seeds, key=lambda seed: self.cost_of_plan(trials[seed]))
 
-    def mean_calls(self, trials=None):
-        """The calls of a plan in the mean of the seeds."""
-        return round(mean(self.price_of(trial).total() for trial in (trials or self.trials).values()))
+    def cost_of_plan(self, trial):
+        """The calls of a plan, each counted by the COST of its predicate."""
+        return self.price_of(trial).cost(self.query)
+
+    def least_cost(self, trials=None):
+        """The cost of the plan that costs least."""
+        trials = trials or self.trials
+        return self.cost_of_plan(trials[self.best(trials)])
+
+    def differs(self, trials=None):
+        """Whether the plans of the seeds differ by so much that a seed is worth choosing."""
+        trials = trials or self.trials
+        costs = [self.cost_of_plan(trial) for trial in trials.values()]
+        return max(costs) > (1 + MUCH_BY_SEED) * min(costs)
+
+    def plan_text(self, trials=None):
+        """What the plan makes that costs least, with its seed where another one makes much more."""
+        trials = trials or self.trials
+        seed = self.best(trials)
+        text = self.price_of(trials[seed]).text(self.query)
+        return text + (" with seed %d" % seed if self.differs(trials) else "")
+
+    def saves(self, trials):
+        """Whether a change by which these are the plans is worth its telling."""
+        return self.least_cost() - self.least_cost(trials) >= max(1, WORTH_A_CHANGE * self.least_cost())
 
     def sample(self):
         """The calls of the sample, by predicate: each term is asked for each combination of the sampled rows of its tables."""
@@ -135,10 +173,14 @@ def number(count):
     return format(count, ",")
 
 
+def calls_of_one(name, count):
+    return "%s %s of %s" % (number(count), "call" if count == 1 else "calls", shown(name))
+
+
 def all_advice(case, count):
     """The sentences on what to change, `count` being how many combinations there are, or None where that isn't known."""
     cheap = cheap_with_index(case)
-    return [*on_estimates(case, count), *cheap, *on_indexes(case), *on_most(case), *on_sample(case), *on_plain(case, count)]
+    return [*on_estimates(case, count), *on_seeds(case), *cheap, *on_indexes(case), *on_most(case), *on_sample(case), *on_plain(case, count)]
 
 
 def on_estimates(case, count):
@@ -148,14 +190,18 @@ def on_estimates(case, count):
         return []
     sentence = "With %s an operator has est=0: the sample met no row of its join or its WHERE, so nothing is known of what stands" \
                " above it, and the plan may score far more than it needs." % seeds_text(blind)
-    by_cost = sorted(case.seeds, key=lambda seed: case.price_of(case.trials[seed]).cost(case.query))
-    best, worst = (case.price_of(case.trials[seed]).total() for seed in (by_cost[0], by_cost[-1]))
-    if best < worst:
-        sentence += " Another seed chooses another plan: with seed %d it makes %s calls, with seed %d %s." % (
-            by_cost[0], number(best), by_cost[-1], number(worst))
-    else:
-        sentence += " All these seeds lead to as many calls: %s." % number(best)
+    if not case.differs():
+        sentence += " All these seeds lead to %s." % case.plan_text()
     return [sentence]
+
+
+def on_seeds(case):
+    """That the plan of one seed costs much less than that of another one."""
+    if not case.differs():
+        return []
+    best, worst = case.best(), max(case.seeds, key=lambda seed: case.cost_of_plan(case.trials[seed]))
+    return ["Take seed %d: its plan makes %s, and that of seed %d %s." % (
+        best, case.price_of(case.trials[best]).text(case.query), worst, case.price_of(case.trials[worst]).text(case.query))]
 
 
 def cheap_with_index(case):
@@ -173,11 +219,11 @@ def cheap_with_index(case):
         copy = Copy(case.body, case.query)
         copy.set_cost(predicate, COST_OF_RANK_SCAN)
         trials = case.other_trials(copy)
-        if trials and case.mean_cost(trials) < case.mean_cost():
+        if trials and case.saves(trials):
             sentences.append(
                 "The COST of %s is %d, and a rank scan costs 2 a row, so the planner calls %s on the rows of a scan although there is a"
-                " rank index. Write its true price, at least COST 2: then the plan makes %s calls in the place of %s." % (
-                    name, cost_of(predicate), name, number(case.mean_calls(trials)), number(case.mean_calls())))
+                " rank index. Write its true price, at least COST 2: then the plan makes %s in the place of %s." % (
+                    name, cost_of(predicate), name, case.plan_text(trials), case.plan_text()))
     return sentences
 
 
@@ -223,15 +269,16 @@ def with_index(case, place, key, arguments):
     trials = case.other_trials(copy_with_index(case.body, case.query, key, arguments))
     if not trials:
         return []
-    saved = case.mean_cost() - case.mean_cost(trials)
-    if saved <= 0:
+    if not case.saves(trials):
         return []
     calls = case.rows(table)
-    paid = calls * max(1, cost_of(predicate))
+    times = calls * cost_of(predicate) // (case.least_cost() - case.least_cost(trials)) + 1
+    if times >= MOST_QUERIES:
+        return []
     return ["There is no rank index for term %d. %s%s makes %s calls once, and then the plan makes %s in the place of %s, so it pays"
             " from %s on." % (place, create.replace(" advised ", " %s_%s " % (plain(table), plain(name))),
                               ", with COST 2 for %s or its true price if that is more," % name if cheap else "", number(calls),
-                              number(case.mean_calls(trials)), number(case.mean_calls()), times_text(int(paid // saved) + 1))]
+                              case.plan_text(trials), case.plan_text(), times_text(times))]
 
 
 def on_most(case):
@@ -258,9 +305,9 @@ def on_most(case):
         copy = Copy(case.body, case.query)
         copy.set_most(predicate, lower)
         trials = case.other_trials(copy)
-        if trials and case.mean_cost(trials) < case.mean_cost():
-            sentences.append("The MAX of %s is %d, and no row of these tables scores above %d. With MAX %d the plan makes %s calls in the"
-                             " place of %s." % (name, most, max(greatest), lower, number(case.mean_calls(trials)), number(case.mean_calls())))
+        if trials and case.saves(trials):
+            sentences.append("The MAX of %s is %d, and no row of these tables scores above %d. With MAX %d the plan makes %s in the place"
+                             " of %s." % (name, most, max(greatest), lower, case.plan_text(trials), case.plan_text()))
     return sentences
 
 
@@ -284,7 +331,7 @@ def on_plain(case, count):
     if count is None:
         return []
     plain_cost = case.plain(count).cost(case.query)
-    sample, plan = case.sample().cost(case.query), case.mean_cost()
+    sample, plan = case.sample().cost(case.query), case.least_cost()
     if plain_cost < sample + plan:
         return ["`plain` is cheaper here: its calls cost %s, and those of `run` %s with its sample, each call counted by its COST." % (
             number(plain_cost), number(round(sample + plan)))]

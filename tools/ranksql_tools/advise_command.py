@@ -3,7 +3,7 @@
 import argparse
 import subprocess
 
-from .advice import Case, all_advice, number, seeds_text
+from .advice import Case, all_advice, calls_of_one, number, seeds_text
 from .command import run_command, tell
 from .limits import GREATEST_SEED
 from .program import find_program, helper, no_program
@@ -109,7 +109,7 @@ def report(body, case):
         shown(text if len(text) <= MOST_SHOWN else text[:MOST_SHOWN - 3] + "..."))]
     for seeds in by_shape(case):
         lines += plan_lines(case, seeds)
-    lines.append("  sample: %s" % calls_text(case.sample()))
+    lines.append("  sample: %s" % case.sample().text(query))
     for create in case.used_indexes():
         index = create.parsed
         lines.append("  index %s, once in a run: %s" % (shown(index.name.says), calls_of_one(index.predicate.says, case.index_calls(create))))
@@ -117,7 +117,7 @@ def report(body, case):
     if count is None:
         lines.append("  plain: its combinations could not be counted in %g seconds" % case.runner.seconds)
     else:
-        lines.append("  plain: %s, one for each term and each of %s" % (calls_text(case.plain(count)), combinations_text(count)))
+        lines.append("  plain: %s, one for each term and each of %s" % (case.plain(count).text(query), combinations_text(count)))
     lines += ["  - " + shown(sentence) for sentence in all_advice(case, count)]
     return lines + [""]
 
@@ -135,21 +135,8 @@ def plan_lines(case, seeds):
     first one."""
     first = case.trials[seeds[0]]
     others = "" if len(seeds) == 1 else ", with est and cost of seed %d" % seeds[0]
-    lines = ["  plan of %s%s: %s" % (seeds_text(seeds), others, calls_text(case.price_of(first)))]
+    lines = ["  plan of %s%s: %s" % (seeds_text(seeds), others, case.price_of(first).text(case.query))]
     return lines + ["    " + shown(line) for line in first.text.splitlines()]
-
-
-def calls_text(price):
-    calls = {name: count for name, count in price.calls.items() if count}
-    if not calls:
-        return "no calls"
-    if len(calls) == 1:
-        return calls_of_one(*next(iter(calls.items())))
-    return "%s calls (%s)" % (number(sum(calls.values())), ", ".join("%s %s" % (shown(name), number(count)) for name, count in calls.items()))
-
-
-def calls_of_one(name, count):
-    return "%s %s of %s" % (number(count), "call" if count == 1 else "calls", shown(name))
 
 
 def combinations_text(count):

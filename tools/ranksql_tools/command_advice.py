@@ -2,17 +2,18 @@
 
 import os
 
-from ranksql_tools.limits import FORMS, GREATEST_K, GREATEST_SCORE, GREATEST_SEED, MOST_CURSORS, MOST_GENERATED_ROWS
+from ranksql_tools.limits import GREATEST_K, GREATEST_SCORE, GREATEST_SEED, MOST_CURSORS, MOST_GENERATED_ROWS
+from ranksql_tools.word_forms import forms
 
 
 def form_of(word):
     """A word of the program with what stands behind it, as it is called."""
-    return f"ranksql {word} {FORMS[word]}"
+    return f"ranksql {word} {forms()[word]}"
 
 
 def count_of(word):
     """How many words there are, with this one."""
-    return 1 + len(FORMS[word].split())
+    return 1 + len(forms()[word].split())
 
 
 def of_usage(words):
@@ -24,8 +25,8 @@ def of_usage(words):
         return "The program has no --help. `run SCRIPT SEED` and `plain SCRIPT` run a script; the manual page is ranksql(1)."
     if word in ("--version", "-V", "version"):
         return "The program has no --version."
-    if word not in FORMS:
-        if word.lower() in FORMS:
+    if word not in forms():
+        if word.lower() in forms():
             return f"The word is written in lower case: {word.lower()}."
         if os.path.exists(word):
             return f"A word stands in front of the script: `ranksql run {word} 1`, or `ranksql plain {word}`."
@@ -57,7 +58,7 @@ RANGES = {
 
 def of_numbers(word, words):
     """What to do where a number is none, or out of its range."""
-    for place, name in enumerate(FORMS[word].split(), 1):
+    for place, name in enumerate(forms()[word].split(), 1):
         if name not in RANGES:
             continue
         least, most = RANGES[name]

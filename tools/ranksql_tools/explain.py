@@ -4,11 +4,12 @@ from ranksql_tools import asking_advice, bind_advice, certificate_advice, comman
 from ranksql_tools.faults import lines_of, read_asking_fault, read_fault
 from ranksql_tools.file_sorts import of_odd_script
 from ranksql_tools.foreign_advice import foreign_word
-from ranksql_tools.limits import MOST_CURSORS, SCRIPT_WORDS
+from ranksql_tools.limits import MOST_CURSORS
 from ranksql_tools.program import helper
 from ranksql_tools.script_parse import parse
 from ranksql_tools.script_place import Place, scorings
 from ranksql_tools.script_text import tokens_of, with_caret, without_mark
+from ranksql_tools.word_forms import has_script
 
 
 def token_at(tokens, place):
@@ -126,7 +127,7 @@ def of_data(fault, words, body):
     elif fault.kind == "table":
         token, lines, says = data_advice.of_table(fault, parser)
     else:
-        script = words[1] if words and words[0] in SCRIPT_WORDS and len(words) > 1 else None
+        script = words[1] if words and has_script(words[0]) and len(words) > 1 else None
         token, says = data_advice.of_read(fault, parser, script)
     shown = with_caret(body, token.start) if body is not None and token is not None else []
     return [*shown, *lines, says]

@@ -1,21 +1,5 @@
-"""The limits of the program and the forms of its words, once for all helpers. docs/FORMATS.md and docs/GRAMMAR.md have them, and
+"""The limits of the program, once for all helpers. docs/FORMATS.md and docs/GRAMMAR.md have them, and
 tests/test_limits.py asks the program for each."""
-
-FORMS = {
-    "top": "FILE COLUMN MAX K",
-    "run": "SCRIPT SEED",
-    "plain": "SCRIPT",
-    "gen": "NUMBER ROWS",
-    "ta": "SCRIPT",
-    "feed": "LEFT RIGHT K",
-    "cert": "LEFT RIGHT K",
-    "check": "FILE",
-    "view": "SCRIPT",
-}
-USAGE = "usage: ranksql " + ", ".join(f"{word} {form}" for word, form in FORMS.items())
-ASKING_USAGE = "usage: ranksql_ask NAMES SCORES QUESTIONS ANSWERS run SCRIPT SEED, or plain SCRIPT behind ANSWERS"
-# The words behind which a script stands.
-SCRIPT_WORDS = tuple(word for word, form in FORMS.items() if form.startswith("SCRIPT"))
 
 # Of the command line.
 GREATEST_SEED = 18_446_744_073_709_551_615

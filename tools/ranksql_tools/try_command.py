@@ -7,9 +7,9 @@ import subprocess
 import sys
 import tempfile
 
-from .limits import FORMS, SCRIPT_WORDS
 from .script_parse import Table, parse
 from .script_text import tokens_of, without_mark
+from .word_forms import forms, has_script
 
 ABOUT = """\
 Runs the program ranksql before it is proved, by the kit's command rt: what is run is compiled from the sources with checks, and
@@ -39,13 +39,13 @@ def tell(sentence):
 
 def files_of_words(words):
     """The files among the words of the program."""
-    form = FORMS.get(words[0], "").split()
+    form = forms().get(words[0], "").split()
     return [word for name, word in zip(form, words[1:]) if name in ("FILE", "SCRIPT", "LEFT", "RIGHT")]
 
 
 def script_of(words):
     """The name of the script among the words, or None where there is none."""
-    return words[1] if len(words) > 1 and words[0] in SCRIPT_WORDS else None
+    return words[1] if len(words) > 1 and has_script(words[0]) else None
 
 
 def tables_of(body):

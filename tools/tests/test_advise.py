@@ -16,7 +16,7 @@ TOOLS = os.path.dirname(HERE)
 ROOT = os.path.dirname(TOOLS)
 sys.path.insert(0, TOOLS)
 
-from ranksql_tools.advice import Case, cheap_with_index  # noqa: E402
+from ranksql_tools.advice import Case, Price, all_advice, cheap_with_index, on_estimates, on_indexes, on_most, on_seeds  # noqa: E402
 from ranksql_tools.advise_command import main  # noqa: E402
 from ranksql_tools.plans import all_combinations, calls_by_term, read_plan, scanned_terms, shape_of, with_estimates  # noqa: E402
 from ranksql_tools.program import find_program  # noqa: E402
@@ -44,9 +44,8 @@ CREATE PREDICATE apart (a INT, b INT) MAX 10007 AS ABS(a - b);
 
 
 def calls_in(text):
-    """The calls that a line of advise names."""
-    found = re.search(r"([\d,]+) calls?", text)
-    return int(found[1].replace(",", "")) if found else 0
+    """The calls that a line of advise names, of all predicates."""
+    return sum(int(count.replace(",", "")) for count in re.findall(r"([\d,]+) (?:calls? )?of [a-z]", text))
 
 
 class InFolder(unittest.TestCase):
@@ -155,7 +154,93 @@ class Cost(unittest.TestCase):
             self.assertEqual(told, bool(sentences))
             if told:
                 self.assertIn("The COST of big is 1", sentences[0])
-                self.assertIn("at least COST 2: then the plan makes 0 calls in the place of 2,000.", sentences[0])
+                self.assertIn("at least COST 2: then the plan makes no calls in the place of 2,000 calls of big.", sentences[0])
+
+
+class Weighing(unittest.TestCase):
+    """What is weighed is COST, by the best seed, and no sentence adds free calls to dear ones."""
+
+    QUERY = "SELECT name FROM towns ORDER BY big(size) + west(east) LIMIT 3"
+
+    def case(self, plans, changed=None, query=QUERY):
+        """The case of a query with these calls of its two terms by seed, and with others of a copy that was changed so."""
+        body = (FRONT + query).encode()
+
+        class Program:
+            """Stands for the program."""
+
+            def start_trials(self, copy, seeds):
+                return True
+
+            def trial(self, copy, seed):
+                big, west = next((counts for mark, counts in (changed or {}).items() if mark.encode() in copy.script()), plans)[seed]
+                return Trial("Rank term 1 est=9 cost=9 asked=3 gave=3 calls=%d\n  Rank term 2 est=9 cost=9 asked=9 gave=9 calls=%d\n"
+                             "    SeqScan towns towns est=2000 cost=2000 asked=9 gave=9 drawn=9\n" % (big, west))
+
+            def printed(self, script, seed):
+                return "SeqScan towns towns est=2000 cost=2000\n" if b"EXPLAIN" in script else "1,5000\n"
+
+        return Case(body, read_queries(body)[0], Program(), sorted(plans))
+
+    def test_price(self):
+        query = read_queries((FRONT + self.QUERY).encode())[0]
+        for calls, text in (({}, "no calls"), ({"big": 0}, "no calls"), ({"west": 1}, "1 call of west"), ({"big": 14133, "west": 0}, "14,133 calls of big"),
+                            ({"big": 7, "west": 2}, "7 calls of big and 2 of west, which cost 87"), ({"big": 7, "apart": 2}, "7 calls of big and 2 of apart")):
+            self.assertEqual(text, Price(calls).text(query))
+
+    def test_seeds(self):
+        """A seed is proposed where another one costs more by more than a fifth."""
+        for other, told in (((120, 0), False), ((121, 0), True), ((100, 1), True), ((0, 2), True), ((0, 3), False), ((0, 4), True)):
+            sentences = on_seeds(self.case({1: other, 2: (100, 0)}))
+            self.assertEqual(told, bool(sentences), (other, sentences))
+        self.assertEqual(["Take seed 2: its plan makes 116 calls of big, and that of seed 5 2,152,276 calls of big."],
+                         on_seeds(self.case({2: (116, 0), 5: (2152276, 0)})))
+        # A plan with more calls is the better one where they are free.
+        self.assertIn("Take seed 1: its plan makes 390 calls of big", on_seeds(self.case({1: (390, 0), 2: (0, 20)}))[0])
+
+    def test_other_seed(self):
+        """A change that helps bad seeds alone isn't proposed, since another seed helps more: a mean over the seeds would say
+        862,148 calls in the place of 920,174."""
+        plans = {1: (10, 0), 2: (1840338, 0)}
+        self.assertEqual([], on_most(self.case(plans, {"MAX 5000": {1: (10, 0), 2: (1724286, 0)}})))
+        self.assertEqual([], on_indexes(self.case(plans, {"advised": {1: (10, 0), 2: (2, 0)}})))
+        self.assertIn("With MAX 5000 the plan makes 5 calls of big in the place of 10 calls of big with seed 1.",
+                      on_most(self.case(plans, {"MAX 5000": {1: (5, 0), 2: (5, 0)}}))[0])
+
+    def test_late_gain(self):
+        """An index that pays from the hundredth query on is no advice: 14,133 calls in the place of 10, so it pays from 10,041
+        such queries on."""
+        self.assertEqual([], on_indexes(self.case({1: (10, 10)}, {"advised": {1: (14133, 10)}})))
+        for without, told in (((0, 21), True), ((0, 20), False)):
+            sentences = on_indexes(self.case({1: without}, {"(west": {1: (0, 0)}}))
+            self.assertEqual(told, any("pays from" in sentence for sentence in sentences), sentences)
+
+    def test_exchange(self):
+        """As many calls of another predicate of the same COST, or more of a cheap one than a dear one would cost, are no gain."""
+        same = "SELECT name FROM towns ORDER BY big(size) + apart(size, east) LIMIT 3"
+        self.assertEqual([], on_indexes(self.case({1: (7, 0)}, {"advised": {1: (0, 7)}}, same)))
+        self.assertEqual([], on_most(self.case({1: (7, 0)}, {"MAX 5000": {1: (0, 7)}}, same)))
+        self.assertEqual([], on_most(self.case({1: (100, 1)}, {"MAX 5000": {1: (20, 3)}})))
+        self.assertIn("makes 100 calls of big in the place of 20 calls of big and 3 of west, which cost 140.",
+                      on_most(self.case({1: (20, 3)}, {"MAX 5000": {1: (100, 0)}}))[0])
+
+    def test_small_gain(self):
+        """A gain of less than a twentieth is none."""
+        for calls, told in ((951, False), (950, True)):
+            self.assertEqual(told, bool(on_most(self.case({1: (1000, 0)}, {"MAX 5000": {1: (calls, 0)}}))))
+
+    def test_blind(self):
+        """Where the plans are alike, est=0 is told with what they do, and else the seed to take is."""
+        case = self.case({1: (7, 0), 2: (7, 0)})
+        for trial in case.trials.values():
+            trial.operators[0] = trial.operators[0]._replace(est=0)
+        self.assertIn("All these seeds lead to 7 calls of big.", on_estimates(case, 9)[0])
+        self.assertEqual([], on_estimates(case, 0))
+        case = self.case({1: (7, 0), 2: (70, 0)})
+        for trial in case.trials.values():
+            trial.operators[0] = trial.operators[0]._replace(est=0)
+        self.assertNotIn("lead to", on_estimates(case, 9)[0])
+        self.assertEqual(["With seeds 1, 2 an operator", "Take seed 1: its plan makes"], [sentence[:27] for sentence in all_advice(case, None)[:2]])
 
 
 class Runs(InFolder):
@@ -212,11 +297,12 @@ class Counts(InFolder):
 
     def test_evening(self):
         printed, _ = self.advise("examples/travel/evening.sql", folder=ROOT)
-        for line in ("121 calls of near", "  sample: 624 calls (cheap 24, tasty 24, near 576)", "  index by_price, once in a run: 42 calls of cheap",
+        for line in ("121 calls of near", "  sample: 24 calls of cheap, 24 of tasty and 576 of near, which cost 1,776", "  index by_price, once in a run: 42 calls of cheap",
                      "  index by_rating, once in a run: 41 calls of tasty",
-                     "  plain: 3,780 calls (cheap 1,260, tasty 1,260, near 1,260), one for each term and each of 1,260 combinations"):
+                     "  plain: 1,260 calls of cheap, 1,260 of tasty and 1,260 of near, which cost 6,300, one for each term and each of 1,260 combinations"):
             self.assertIn(line, printed)
-        self.assertNotIn("  - ", printed)
+        self.assertEqual(["  - Take seed 2: its plan makes 121 calls of near, and that of seed 1 385 calls of near."],
+                         [line for line in printed.splitlines() if line.startswith("  - ")])
 
     @NEEDS_COUNTER
     def test_totals(self):
@@ -250,7 +336,7 @@ class Sentences(InFolder):
     def test_index(self):
         printed = self.of_script("SELECT name FROM towns ORDER BY west(east) LIMIT 3;")
         self.assertIn("There is no rank index for term 1. CREATE RANK INDEX towns_west ON towns (west(east)) makes 2,000 calls once, and then the"
-                      " plan makes 0 in the place of 2,000, so it pays from 2 such queries on.", printed)
+                      " plan makes no calls in the place of 2,000 calls of west, so it pays from 2 such queries on.", printed)
 
     def test_estimates(self):
         printed = self.of_script("SELECT a.name FROM towns a, towns b, towns c WHERE a.name = b.name AND b.name = c.name ORDER BY west(a.east) + big(c.size) LIMIT 3;")

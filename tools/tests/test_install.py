@@ -16,7 +16,8 @@ class Install(unittest.TestCase):
         self.folder = tempfile.mkdtemp()
         self.addCleanup(shutil.rmtree, self.folder)
         self.program, self.asking = os.path.join(self.folder, "program"), os.path.join(self.folder, "asking")
-        self.write(self.program, '#!/bin/sh\necho "usage: of $*" >&2\nexit 2\n')
+        # Without words it says which words there are, as the program does.
+        self.write(self.program, '#!/bin/sh\n[ $# = 0 ] && set -- "ranksql run SCRIPT SEED, plain SCRIPT" || set -- "of $*"\necho "usage: $1" >&2\nexit 2\n')
         self.write(self.asking, "#!/bin/sh\nexit 5\n")
         for program in (self.program, self.asking):
             os.chmod(program, 0o755)

@@ -10,7 +10,7 @@ import unittest
 HERE = os.path.dirname(os.path.abspath(__file__))
 sys.path.insert(0, os.path.dirname(HERE))
 
-from ranksql_tools import limits  # noqa: E402
+from ranksql_tools import limits, word_forms  # noqa: E402
 from ranksql_tools.program import find_program  # noqa: E402
 
 PROGRAM, ASKING = find_program(), find_program("ranksql_ask")
@@ -45,15 +45,15 @@ class Limits(unittest.TestCase):
 
     @NEEDS_PROGRAM
     def test_usage(self):
-        self.assertEqual(self.run_words(), (2, limits.USAGE + "\n"))
+        self.assertEqual(self.run_words(), (2, word_forms.in_source("ranksql") + "\n"))
 
     @NEEDS_ASKING
     def test_usage_of_the_program_that_asks(self):
-        self.assertEqual(self.run_words(program=ASKING), (2, limits.ASKING_USAGE + "\n"))
+        self.assertEqual(self.run_words(program=ASKING), (2, word_forms.in_source("ranksql_ask") + "\n"))
 
     @NEEDS_PROGRAM
     def test_words(self):
-        for word, form in limits.FORMS.items():
+        for word, form in word_forms.forms().items():
             given = ["1" if name in ("K", "MAX", "SEED", "NUMBER", "ROWS") else "x" for name in form.split()]
             self.assertNotEqual(self.run_words(word, *given)[0], 2)
             self.assertEqual(self.run_words(word, *given, "1")[0], 2)

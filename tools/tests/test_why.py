@@ -14,7 +14,7 @@ TOOLS = os.path.dirname(HERE)
 ROOT = os.path.dirname(TOOLS)
 sys.path.insert(0, TOOLS)
 
-from ranksql_tools import limits  # noqa: E402
+from ranksql_tools import word_forms  # noqa: E402
 from ranksql_tools.explain import explanation  # noqa: E402
 from ranksql_tools.faults import read_fault  # noqa: E402
 from ranksql_tools.program import find_program  # noqa: E402
@@ -33,7 +33,7 @@ class Case:
         given = dict(zip(parts[1::2], parts[2::2]))
         self.script = bytes_of(front + parts[0])
         self.words = given.pop("words", "plain script.sql").split()
-        self.why = re.sub(r"^USAGE$", limits.USAGE, given.pop("why", ""), flags=re.MULTILINE)
+        self.why = re.sub(r"^USAGE$", word_forms.usage(), given.pop("why", ""), flags=re.MULTILINE)
         self.files = {name: bytes_of(content) for name, content in given.items()}
 
     def write(self, folder):

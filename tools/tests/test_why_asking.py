@@ -11,7 +11,7 @@ HERE = os.path.dirname(os.path.abspath(__file__))
 TOOLS = os.path.dirname(HERE)
 sys.path.insert(0, TOOLS)
 
-from ranksql_tools import limits  # noqa: E402
+from ranksql_tools import word_forms  # noqa: E402
 from ranksql_tools.explain import asking_explanation  # noqa: E402
 from ranksql_tools.program import find_program  # noqa: E402
 
@@ -27,7 +27,7 @@ WORDS = ["dear", "s.csv", "questions", "answers.txt", "run", "s.sql", "1"]
 COUNTS = "calls=4 questions=1 known=0\n"
 # What the program says, with the file of scores there, and parts of what is said of it.
 LINES = [
-    (limits.ASKING_USAGE + "\n", "", ["The form is"]),
+    (word_forms.usage("ranksql_ask") + "\n", "", ["The form is"]),
     ("scores: s.csv: NotEnded\n", "dear,1,5", ["no line feed", "Take this record away"]),
     ("scores: s.csv: InUse\n", "", ["Another run of ranksql_ask has this file of scores open"]),
     ("scores: s.csv: FieldCount record 2 found 2\n", "dear,1,5\ndear,2\n", ["   2 | dear,2", "3 to 10 fields. This one has 2."]),
@@ -96,7 +96,7 @@ class Lines(InFolder):
             ([*WORDS[:4], "view", "s.sql"], "Another word isn't there"),
         ):
             with self.subTest(words):
-                self.assertIn(part, asking_explanation(limits.ASKING_USAGE, words, SCRIPT)[0])
+                self.assertIn(part, asking_explanation(word_forms.usage("ranksql_ask"), words, SCRIPT)[0])
 
 
 @NEEDS_ASKING

@@ -5,8 +5,8 @@ use Rattle.rs_outside.specs.declared.files.FetchFault.{FetchFault}
 use Rattle.rs_outside.specs.declared.files.FetchFault.TheVariants as fetch
 use Rattle.rs_run.specs.Faults.{run_fault_line}
 use Rattle.rs_run.specs.declared.fault.RunFault.TheVariants.{Statement}
-use Rattle.rs_run.specs.declared.status.Status.{Status}
-use Rattle.rs_run.specs.declared.status.Status.TheVariants as status
+use Rattle.rs_events.specs.declared.status.Status.{Status}
+use Rattle.rs_events.specs.declared.status.Status.TheVariants as status
 use Rattle.rs_statement.specs.declared.fault.Fault.TheVariants as fault
 use Rattle.rs_scores.specs.declared.fault.KnownFault.{KnownFault}
 use Rattle.rs_scores.specs.declared.fault.KnownFault.TheVariants as known
@@ -20,8 +20,8 @@ use Rattle.rs_prepare.specs.declared.open_fault.OpenFault.{OpenFault}
 use Rattle.rs_prepare.specs.declared.open_fault.OpenFault.TheVariants as opening
 use Rattle.rs_prepare.specs.declared.open_fault.Stream.{Stream}
 use Rattle.rs_prepare.specs.declared.open_fault.Stream.TheVariants as streams
-use Rattle.ranksql_ask.specs.declared.fault.AskFault.{AskFault}
-use Rattle.ranksql_ask.specs.declared.fault.AskFault.TheVariants as ask
+use Rattle.ranksql_ask.specs.declared.fault.StartFault.{StartFault}
+use Rattle.ranksql_ask.specs.declared.fault.StartFault.TheVariants as start
 
 -- why nothing is run: the words are of no form, or there is no memory, or the script makes no predicate of this name, or the file of this name can't be read, or one can't be
 -- written to, or the file of this name holds something that is no known score, or another run has locked it, or the file of an end is one that is in use already
@@ -35,15 +35,15 @@ pub data Refusal : Type 0 where
   InUse : List ℕ → Refusal
   OneFile : End → Stream → Refusal
 
-abbrev pub refusal : AskFault → Refusal
-refusal ask.Usage = Usage
-refusal ask.Memory = Memory
-refusal (ask.NoPredicate name) = NoPredicate name.now
-refusal (ask.Read name why) = Read name.now why
-refusal ask.Write = Write
-refusal (ask.Scores name why) = Scores name.now why
-refusal (ask.InUse name) = InUse name.now
-refusal (ask.OneFile end stream) = OneFile end stream
+abbrev pub refusal : StartFault → Refusal
+refusal start.Usage = Usage
+refusal start.Memory = Memory
+refusal (start.NoPredicate name) = NoPredicate name.now
+refusal (start.Read name why) = Read name.now why
+refusal start.Write = Write
+refusal (start.Scores name why) = Scores name.now why
+refusal (start.InUse name) = InUse name.now
+refusal (start.OneFile end stream) = OneFile end stream
 
 -- the refusal of an end that isn't opened
 abbrev pub unopened : EndWords → End → OpenFault → Refusal

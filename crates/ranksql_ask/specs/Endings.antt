@@ -3,7 +3,7 @@ use Rattle.std.specs.Prelude.{ℕ, ◌≡◌, ◌⊎◌, List, [], ◌∷◌, Op
 use Rattle.rs_value.specs.Outside.{Keeps, Outside}
 use Rattle.rs_run.specs.Naming.{Looks}
 use Rattle.rs_run.specs.Outcome.{PutsLine, PutsNothing}
-use Rattle.rs_run.specs.Status.{exit_status_of}
+use Rattle.rs_events.specs.Status.{exit_status_of}
 use Rattle.rs_outside.specs.Files.{FilesState, KeepsFiles}
 use Rattle.rs_run.specs.Words.{Form, RunScript}
 use Rattle.rs_scores.specs.Known.{Known}

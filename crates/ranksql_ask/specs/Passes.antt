@@ -5,9 +5,9 @@ use Rattle.rs_outside.specs.Files.{FilesState, KeepsFiles}
 use Rattle.rs_outside.specs.MemSink.{no_pieces, sink_state}
 use Rattle.rs_events.specs.Environment.{environment}
 use Rattle.rs_run.specs.Outcome.{FormRunsTo}
-use Rattle.rs_run.specs.Status.{exit_status_of}
-use Rattle.rs_run.specs.declared.status.Status.{Status}
-use Rattle.rs_run.specs.declared.status.Status.TheVariants as status
+use Rattle.rs_events.specs.Status.{exit_status_of}
+use Rattle.rs_events.specs.declared.status.Status.{Status}
+use Rattle.rs_events.specs.declared.status.Status.TheVariants as status
 use Rattle.rs_run.specs.Words.{Form}
 use Rattle.rs_scores.specs.Known.{Known, score_of}
 use Rattle.rs_scores.specs.TableScorer.{TableScorerState, missing_last, new_scorer, table_state}

@@ -1,7 +1,7 @@
 ghost use Rattle.std.specs.Prelude.{◌≡◌, ◌∷◌, [], OnErr, OnOk, Some, codes};
 ghost use Rattle.rs_value.specs.Outside.{Keeps};
 ghost use Rattle.rs_run.specs.Outcome.{PutsLine, PutsNothing};
-ghost use Rattle.rs_run.specs.Status.{exit_status_of};
+ghost use Rattle.rs_events.specs.Status.{exit_status_of};
 ghost use Rattle.rs_ask.specs.Asking.{AskingState, channel_state};
 ghost use Rattle.rs_prepare.specs.Preparing.{end_words, openings};
 ghost use Rattle.rs_scores.specs.KnownFiles.{known_state};
@@ -12,7 +12,7 @@ ghost use Rattle.ranksql_ask.specs.Parts.Asking.{request_made};
 ghost use Rattle.ranksql_ask.specs.Words.{request_of};
 
 use crate::ending::{counts_line, end_status, last_line};
-use crate::fault::AskFault;
+use crate::fault::StartFault;
 use crate::script::Script;
 use crate::words::{Request, request_of};
 use rs_ask::{Answers, Asked, Channel, Rerun, Stop, ask_and_run};
@@ -48,11 +48,11 @@ pub fn command<H: Opens, F: Files, G: Files + Drop, O: Sink, E: Sink>(
         Ok(Some(request)) => answer(alloc, request, opens, kept, files, out, err),
         Ok(None) => {
             drop(files);
-            (refuse(alloc, &AskFault::Usage, err), out)
+            (refuse(alloc, &StartFault::Usage, err), out)
         }
         Err(Memory) => {
             drop(files);
-            (refuse(alloc, &AskFault::Memory, err), out)
+            (refuse(alloc, &StartFault::Memory, err), out)
         }
     }
 }
@@ -91,7 +91,7 @@ fn answer<H: Opens, F: Files, G: Files + Drop, O: Sink, E: Sink>(
             make_ready(alloc, names, ends, &mut script, opens, kept, out, err)
         }
         Ok(Some(name)) => (refuse_name(alloc, name, err), out),
-        Err(Memory) => (refuse(alloc, &AskFault::Memory, err), out),
+        Err(Memory) => (refuse(alloc, &StartFault::Memory, err), out),
     }
 }
 
@@ -119,7 +119,7 @@ fn make_ready<R: Rerun, H: Opens, F: Files, O: Sink, E: Sink>(
             out,
             err,
         ),
-        Err(why) => (refuse(alloc, &AskFault::of(ends, why), err), out),
+        Err(why) => (refuse(alloc, &StartFault::of(ends, why), err), out),
     }
 }
 
@@ -187,11 +187,11 @@ fn tell_lost<E: Sink>(line: &[u8], err: &mut E) -> u8
 fn refuse_name<E: Sink>(alloc: Global, name: &Text, err: &mut E) -> u8
     ensures { Tells (ask_line (NoPredicate name.now) ∷ []) (exit_status_of (ask_status (NoPredicate name.now))) result (E.state err.old) (E.state err.new) }
 {
-    refuse(alloc, &AskFault::NoPredicate(name), err)
+    refuse(alloc, &StartFault::NoPredicate(name), err)
 }
 
 /// Puts the line of a fault before any run.
-fn refuse<E: Sink>(alloc: Global, fault: &AskFault<'_>, err: &mut E) -> u8
+fn refuse<E: Sink>(alloc: Global, fault: &StartFault<'_>, err: &mut E) -> u8
     ensures { Tells (ask_line (refusal fault.now) ∷ []) (exit_status_of (ask_status (refusal fault.now))) result (E.state err.old) (E.state err.new) }
 {
     match fault.line(alloc) {

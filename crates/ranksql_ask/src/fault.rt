@@ -12,7 +12,7 @@ use std::alloc::Global;
 
 /// Why nothing is run.
 #[derive(Clone, Copy, Debug)]
-pub enum AskFault<'a> {
+pub enum StartFault<'a> {
     /// The words are of no form.
     Usage,
     Memory,
@@ -30,30 +30,33 @@ pub enum AskFault<'a> {
     OneFile(End, Stream),
 }
 
-impl<'a> AskFault<'a> {
+impl<'a> StartFault<'a> {
     /// The fault of what doesn't stand ready.
-    pub fn of(ends: EndNames<'a>, why: PrepareFault) -> AskFault<'a>
+    pub fn of(ends: EndNames<'a>, why: PrepareFault) -> StartFault<'a>
         ensures { refusal result ≡ unready (end_words ends.entry) why }
     {
         match why {
-            PrepareFault::Unopened(end, why) => AskFault::of_unopened(ends, end, why),
-            PrepareFault::Unread(ScoresFault::Memory) => AskFault::Memory,
-            PrepareFault::Unread(ScoresFault::Fetch(why)) => AskFault::Read(ends.scores, why),
-            PrepareFault::Unread(ScoresFault::Refused(why)) => AskFault::Scores(ends.scores, why),
+            PrepareFault::Unopened(end, why) => StartFault::of_unopened(ends, end, why),
+            PrepareFault::Unread(ScoresFault::Memory) => StartFault::Memory,
+            PrepareFault::Unread(ScoresFault::Fetch(why)) => StartFault::Read(ends.scores, why),
+            PrepareFault::Unread(ScoresFault::Refused(why)) => StartFault::Scores(ends.scores, why),
         }
     }
 
     /// The fault of an end that isn't opened.
-    fn of_unopened(ends: EndNames<'a>, end: End, why: OpenFault) -> AskFault<'a>
+    fn of_unopened(ends: EndNames<'a>, end: End, why: OpenFault) -> StartFault<'a>
         ensures { refusal result ≡ unopened (end_words ends.entry) end why }
     {
         match (why, end) {
-            (OpenFault::Memory, _) => AskFault::Memory,
-            (OpenFault::OneFile(stream), end) => AskFault::OneFile(end, stream),
-            (OpenFault::InUse, End::Scores) => AskFault::InUse(ends.scores),
-            (OpenFault::Missing, End::Answers) => AskFault::Read(ends.answers, FetchFault::Missing),
-            (_, End::Answers) => AskFault::Read(ends.answers, FetchFault::Failed),
-            (_, _) => AskFault::Write,
+            (OpenFault::Memory, _) => StartFault::Memory,
+            (OpenFault::OneFile(stream), end) => StartFault::OneFile(end, stream),
+            (OpenFault::InUse, End::Scores) => StartFault::InUse(ends.scores),
+            (OpenFault::Missing, End::Answers) => StartFault::Read(
+                ends.answers,
+                FetchFault::Missing,
+            ),
+            (_, End::Answers) => StartFault::Read(ends.answers, FetchFault::Failed),
+            (_, _) => StartFault::Write,
         }
     }
 
@@ -62,12 +65,12 @@ impl<'a> AskFault<'a> {
         ensures { result ≡ ask_status (refusal self.now) }
     {
         match self {
-            AskFault::Usage => Status::Usage,
-            AskFault::Memory => Status::Memory,
-            AskFault::NoPredicate(_) => Status::Script,
-            AskFault::Read(..) => Status::Read,
-            AskFault::Write | AskFault::OneFile(..) => Status::Write,
-            AskFault::Scores(..) | AskFault::InUse(_) => Status::Table,
+            StartFault::Usage => Status::Usage,
+            StartFault::Memory => Status::Memory,
+            StartFault::NoPredicate(_) => Status::Script,
+            StartFault::Read(..) => Status::Read,
+            StartFault::Write | StartFault::OneFile(..) => Status::Write,
+            StartFault::Scores(..) | StartFault::InUse(_) => Status::Table,
         }
     }
 
@@ -80,23 +83,23 @@ impl<'a> AskFault<'a> {
         ensures { IfOk result (λ line. string_bytes line ≡ ask_line (refusal self.now)) }
     {
         match self {
-            AskFault::Usage => Ok(String::from_str(
+            StartFault::Usage => Ok(String::from_str(
                 alloc,
                 "usage: ranksql_ask NAMES SCORES QUESTIONS ANSWERS run SCRIPT SEED, or plain SCRIPT behind ANSWERS\n",
             )?),
-            AskFault::Memory => Ok(String::from_str(alloc, "memory\n")?),
-            AskFault::NoPredicate(name) => {
+            StartFault::Memory => Ok(String::from_str(alloc, "memory\n")?),
+            StartFault::NoPredicate(name) => {
                 let name = name.as_str();
                 Ok(format!(in alloc; "ask: no predicate {name}\n")?)
             }
-            AskFault::Read(name, why) => read_line(alloc, name, *why),
-            AskFault::Write => Ok(String::from_str(alloc, "write\n")?),
-            AskFault::Scores(name, why) => scores_line(alloc, name, why),
-            AskFault::InUse(name) => {
+            StartFault::Read(name, why) => read_line(alloc, name, *why),
+            StartFault::Write => Ok(String::from_str(alloc, "write\n")?),
+            StartFault::Scores(name, why) => scores_line(alloc, name, why),
+            StartFault::InUse(name) => {
                 let name = name.as_str();
                 Ok(format!(in alloc; "scores: {name}: InUse\n")?)
             }
-            AskFault::OneFile(end, stream) => one_file_line(alloc, *end, *stream),
+            StartFault::OneFile(end, stream) => one_file_line(alloc, *end, *stream),
         }
     }
 }

@@ -1,6 +1,7 @@
 ghost use Rattle.std.specs.Prelude.{◌≡◌, IfOk, option_map};
-ghost use Rattle.rs_run.specs.Words.{plain_form};
-ghost use Rattle.ranksql_ask.specs.Words.{asking_form, guessing_form, request_of};
+ghost use Rattle.rs_statement.specs.declared.sampling.Sampling.TheVariants.{ByGuesses};
+ghost use Rattle.rs_run.specs.Words.{first_form, form_by, plain_words, run_words};
+ghost use Rattle.ranksql_ask.specs.Words.{asking_forms, request_of};
 ghost use Rattle.ranksql_ask.specs.Parts.Asking.{form_of_asking, request_made};
 
 use rs_prepare::EndNames;
@@ -57,7 +58,7 @@ pub fn request_of(alloc: Global, words: &[Text]) -> Result<Option<Request<'_>>, 
 
 /// What words ask for, where they are `plain SCRIPT` or `run SCRIPT SEED`. Under `run` plans are chosen by guesses.
 fn asking_of(words: &[Text]) -> Option<Asking<'_>>
-    ensures { option_map form_of_asking result ≡ asking_form words.now }
+    ensures { option_map form_of_asking result ≡ first_form asking_forms words.now }
 {
     if let Some(asking) = plain_asking(words) {
         return Some(asking);
@@ -67,7 +68,7 @@ fn asking_of(words: &[Text]) -> Option<Asking<'_>>
 
 /// What the words `plain SCRIPT` ask for.
 fn plain_asking(words: &[Text]) -> Option<Asking<'_>>
-    ensures { option_map form_of_asking result ≡ plain_form words.now }
+    ensures { option_map form_of_asking result ≡ form_by plain_words words.now }
 {
     let [word, script] = words else {
         return None;
@@ -83,7 +84,7 @@ fn plain_asking(words: &[Text]) -> Option<Asking<'_>>
 
 /// What the words `run SCRIPT SEED` ask for.
 fn guessing(words: &[Text]) -> Option<Asking<'_>>
-    ensures { option_map form_of_asking result ≡ guessing_form words.now }
+    ensures { option_map form_of_asking result ≡ form_by (run_words ByGuesses) words.now }
 {
     let [word, script, seed] = words else {
         return None;

@@ -1,13 +1,12 @@
 ghost use Rattle.std.specs.Prelude.{◌≡◌, IsErr};
-ghost use Rattle.std.specs.Io.{ReadsAtMost};
-ghost use Rattle.std.specs.Io.KnownBytes.{ReadConsumes};
 ghost use Rattle.rs_value.specs.Outside.{Counts};
 ghost use Rattle.rs_ask.specs.Answers.{ReadsByte};
 ghost use Rattle.rs_ask.specs.ReadAnswers.{faults_after_read, reader_state};
 
 use crate::answers::{Answers, ReadFault};
+use rs_outside::read_some;
 use std::io;
-use std::io::{ErrorKind, Read};
+use std::io::Read;
 use std::marker::Model;
 
 /// Answers from a reader of the system, such as a file or a pipe. Contracts see the reader, and how many reads failed.
@@ -23,20 +22,6 @@ impl<R> Model for ReadAnswers<R> {
     ghost Value = { Reader R };
 
     ghost view = { λ a. record { reader = a.reader; faults = a.faults } };
-}
-
-/// One read, tried again where a signal interrupts it.
-fn read_some<R: Read>(reader: &mut R, into: &mut [u8]) -> io::Result<usize>
-    ensures bound { ReadsAtMost result into.new }
-    ensures bytes { ReadConsumes (R.remaining reader.old) (R.remaining reader.new) result into.new }
-{
-    for _ in 0..u64::MAX {
-        match reader.read(into) {
-            Err(error) if error.kind() == ErrorKind::Interrupted => {}
-            result => return result,
-        }
-    }
-    reader.read(into)
 }
 
 /// The next byte. No more bytes are read than this one.

@@ -6,7 +6,7 @@ use Rattle.rs_cert.specs.declared.cert.Cert.{Cert}
 use Rattle.rs_cert.specs.declared.entry.Entry.{Entry}
 use Rattle.rs_cert.specs.declared.fault.CertFault.{CertFault}
 use Rattle.rs_cert.specs.declared.fault.CertFault.TheVariants.{Form, Memory}
-use Rattle.rs_cert.specs.Csv.{Fields}
+use Rattle.rs_lines.specs.Records.{Fields}
 use Rattle.rs_cert.specs.Growing.{cert_of, new_cert, next_cert, or_form, with_record, with_records}
 use Rattle.rs_cert.specs.Records.{AreRecordsOf, Begin, IsFirstStrange, IsRead, entries_of, entry_of, wanted_of}
 use Rattle.rs_cert.proofs.GrowFacts.{grown, grown-all, grown-more, none-some, some-same}

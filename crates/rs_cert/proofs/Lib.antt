@@ -4,7 +4,6 @@ pub mod CertFacts
 pub mod CheckFacts
 pub mod ClaimFacts
 pub mod CountFacts
-pub mod CsvFacts
 pub mod FirstFacts
 pub mod GrowFacts
 pub mod InsideFacts

@@ -6,7 +6,7 @@ use Rattle.rs_value.specs.Answer.{Gives}
 use Rattle.rs_cert.specs.declared.cert.Cert.{Cert}
 use Rattle.rs_cert.specs.declared.fault.CertFault.{CertFault}
 use Rattle.rs_cert.specs.declared.fault.CertFault.TheVariants.{Form, Memory}
-use Rattle.rs_cert.specs.Csv.{Fields}
+use Rattle.rs_lines.specs.Records.{Fields}
 use Rattle.rs_cert.specs.Growing.{Adds, cert_of, new_cert, with_record, with_records}
 use Rattle.rs_cert.specs.Records.{AreNotThree, wanted_of}
 

@@ -5,7 +5,7 @@ use Rattle.rs_cert.specs.declared.cert.CertSide.{CertSide}
 use Rattle.rs_cert.specs.declared.entry.Entry.TheVariants.{OfLeft, OfRight, OfPair}
 use Rattle.rs_cert.specs.declared.entry.SideEntry.TheVariants.{Row, End}
 use Rattle.rs_cert.specs.declared.fault.CertFault.TheVariants.{Form}
-use Rattle.rs_cert.specs.Csv.{records_of}
+use Rattle.rs_lines.specs.Records.{records_of}
 use Rattle.rs_cert.specs.Growing.{cert_of}
 use Rattle.rs_cert.specs.Records.{entry_of, wanted_of}
 use Rattle.rs_feed.specs.declared.feed_row.FeedRow.{FeedRow}

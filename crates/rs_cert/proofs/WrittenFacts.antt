@@ -8,8 +8,10 @@ use Rattle.std.specs.List.{AllByRecursion}
 use Rattle.std.specs.Str.{bytes_eq}
 use Rattle.std.specs.declared.alloc.Global.{Global}
 use Rattle.std.specs.declared.vec.Vec.{Vec}
-use Rattle.csv.specs.Reading.{default_config, records, strip_bom}
+use Rattle.csv.specs.Reading.{default_config, records, records_from, strip_bom}
 use Rattle.csv.specs.Writing.{default_writer, read_back, row_text}
+use Rattle.csv.specs.declared.parser.State.TheVariants as st
+use Rattle.csv.proofs.RoundTrip.{read-write}
 use Rattle.rs_feed.specs.declared.feed_row.FeedRow.{FeedRow}
 use Rattle.rs_order.proofs.EachFacts.{each-append}
 use Rattle.rs_value.specs.Number.{int_value}
@@ -20,11 +22,19 @@ use Rattle.rs_cert.specs.declared.entry.Entry.{Entry}
 use Rattle.rs_cert.specs.declared.entry.Entry.TheVariants.{OfLeft, OfRight, OfPair}
 use Rattle.rs_cert.specs.declared.entry.SideEntry.{SideEntry}
 use Rattle.rs_cert.specs.declared.entry.SideEntry.TheVariants.{Row, End}
-use Rattle.rs_cert.specs.Csv.{Fields, records_of}
+use Rattle.rs_lines.specs.Records.{Fields, records_of}
 use Rattle.rs_cert.specs.Records.{AreRecordsOf, HasFewRows, entry_of, greatest_number, most_wanted, number_up_to, side_entries, side_entry_of}
 use Rattle.rs_cert.specs.Written.{AreWritablePairs, AreWritableRows, IsWritablePair, IsWritableRow, end_record, end_records, pair_record, row_record, side_records, text_of, wanted_record, written, written_records}
-use Rattle.rs_cert.proofs.CsvFacts.{records-written}
+use Rattle.rs_lines.proofs.RecordsFacts.{after_read, records_from-ended, records_from-first}
 use Rattle.rs_cert.proofs.NumeralFacts.{int_value-decimal, number_up_to-decimal}
+
+-- the records of a text that was written
+records-written : (rows : List Fields) → records_from default_config (length (text_of rows) + 1) st.StartRecord (text_of rows) ≡ map read_back rows
+records-written [] = records_from-ended default_config (length {A = ℕ} [] + 1)
+records-written (row ∷ rows) =
+    records_from-first default_config st.StartRecord (row_text default_writer row ++ text_of rows)
+    ∙ ap (after_read default_config) (read-write row (text_of rows))
+    ∙ ap (λ (more : List Fields). read_back row ∷ more) (records-written rows)
 
 -- digits aren't the word of an end
 digits-end : (n : ℕ) → n ≤ greatest_number → (b : Bool) → bytes_eq (decimal n) (codes "end") ≡ b → b ≡ false

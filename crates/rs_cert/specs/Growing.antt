@@ -9,7 +9,7 @@ use Rattle.rs_cert.specs.declared.entry.SideEntry.{SideEntry}
 use Rattle.rs_cert.specs.declared.entry.SideEntry.TheVariants.{Row, End}
 use Rattle.rs_cert.specs.declared.fault.CertFault.{CertFault}
 use Rattle.rs_cert.specs.declared.fault.CertFault.TheVariants.{Form, Memory}
-use Rattle.rs_cert.specs.Csv.{Fields}
+use Rattle.rs_lines.specs.Records.{Fields}
 use Rattle.rs_cert.specs.Records.{entry_of, most_rows, wanted_of}
 
 -- nothing was read of a side, or of a certificate behind its first record

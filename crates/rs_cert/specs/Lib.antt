@@ -1,6 +1,5 @@
 pub mod ByText
 pub mod Claims
-pub mod Csv
 pub mod Good
 pub mod Growing
 pub mod Pairs

@@ -10,7 +10,7 @@ use Rattle.rs_cert.specs.declared.entry.SideEntry.{SideEntry}
 use Rattle.rs_cert.specs.declared.entry.SideEntry.TheVariants.{Row, End}
 use Rattle.rs_cert.specs.declared.fault.CertFault.{CertFault}
 use Rattle.rs_cert.specs.declared.fault.CertFault.TheVariants.{Form, Memory}
-use Rattle.rs_cert.specs.Csv.{Fields}
+use Rattle.rs_lines.specs.Records.{Fields}
 
 -- a record has fewer fields than three, or more
 abbrev pub AreNotThree : Fields → Type 0

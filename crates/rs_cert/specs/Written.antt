@@ -7,7 +7,7 @@ use Rattle.csv.specs.Writing.{default_writer, row_text}
 use Rattle.rs_feed.specs.declared.feed_row.FeedRow.{FeedRow}
 use Rattle.rs_cert.specs.declared.cert.Cert.{Cert}
 use Rattle.rs_cert.specs.declared.cert.CertSide.{CertSide}
-use Rattle.rs_cert.specs.Csv.{Fields}
+use Rattle.rs_lines.specs.Records.{Fields}
 use Rattle.rs_cert.specs.Records.{greatest_number}
 
 -- the first record

@@ -5,7 +5,7 @@ ghost use Rattle.rs_cert.specs.declared.cert.Cert.{Cert};
 ghost use Rattle.rs_cert.specs.declared.fault.CertFault.{CertFault};
 ghost use Rattle.rs_cert.specs.declared.fault.CertFault.TheVariants as fault;
 ghost use Rattle.rs_feed.specs.declared.feed_row.FeedRow.{FeedRow};
-ghost use Rattle.rs_cert.specs.Csv.{Fields};
+ghost use Rattle.rs_lines.specs.Records.{Fields};
 ghost use Rattle.rs_cert.specs.Good.{IsGood, RightIsReached};
 ghost use Rattle.rs_cert.specs.Pairs.{answers, numbers_of};
 ghost use Rattle.rs_cert.specs.Records.{AreRecordsOf, IsRead};

@@ -1,8 +1,7 @@
-ghost use Rattle.std.specs.Prelude.{◌≡◌, ◌<◌, ◌^◌, ◌∷◌, [], length, true, IfOk};
-ghost use Rattle.std.specs.Bool.{MatchBool};
+ghost use Rattle.std.specs.Prelude.{◌<◌, ◌^◌, length};
 ghost use Rattle.csv.specs.Records.{fields_of};
 ghost use Rattle.rs_value.specs.Answer.{Gives};
-ghost use Rattle.rs_cert.specs.Csv.{IsReading, records_left, records_of};
+ghost use Rattle.rs_lines.specs.Records.{records_of};
 ghost use Rattle.rs_cert.specs.Growing.{Adds, cert_of};
 ghost use Rattle.rs_cert.specs.Records.{IsRead};
 
@@ -10,8 +9,8 @@ use crate::cert::Cert;
 use crate::draft::CertDraft;
 use crate::entry::{entry_of, wanted_of};
 use crate::fault::CertFault;
-use csv::{ByteRecord, Reader, ReaderBuilder};
-use rs_value::Memory;
+use csv::ByteRecord;
+use rs_lines::{next_record, reader_of};
 use std::alloc::Global;
 
 /// The certificate whose records these bytes are, behind one byte order mark, or the first record that no certificate
@@ -49,31 +48,6 @@ fn read_records(alloc: Global, bytes: &[u8]) -> Result<Cert, CertFault>
         add_record(alloc, &mut draft, place, &fields)?;
     }
     Ok(draft.into_cert())
-}
-
-/// What reads the records of these bytes, behind one byte order mark.
-fn reader_of<'a>(alloc: Global, bytes: &'a [u8]) -> Reader<&'a [u8]>
-    ensures reading { IsReading result }
-    ensures records { records_left result ≡ records_of bytes.now }
-{
-    ReaderBuilder::new()
-        .has_headers(false)
-        .flexible(true)
-        .from_reader(alloc, bytes)
-}
-
-/// Reads the next record, where one is left.
-fn next_record<'a>(reader: &mut Reader<&'a [u8]>, fields: &mut ByteRecord) -> Result<bool, Memory>
-    requires { IsReading reader.old }
-    ensures found { IfOk result (λ found.
-        MatchBool found (records_left reader.old ≡ fields_of fields.new ∷ records_left reader.new) (records_left reader.old ≡ [])) }
-    ensures reading { IfOk result (λ found. found ≡ true → IsReading reader.new) }
-{
-    // Records may differ in length and are read as bytes, so an error is no fault of the file.
-    let Ok(found) = reader.read_byte_record(fields) else {
-        return Err(Memory);
-    };
-    Ok(found)
 }
 
 /// Adds the record of this number.

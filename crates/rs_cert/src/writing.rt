@@ -1,6 +1,6 @@
 ghost use Rattle.std.specs.Prelude.{◌≡◌, ◌∷◌, [], ◌≤◌, codes, IfOk, OnOk, map};
 ghost use Rattle.csv.specs.Writing.{default_writer, row_text};
-ghost use Rattle.rs_cert.specs.Csv.{records_of};
+ghost use Rattle.rs_lines.specs.Records.{records_of};
 ghost use Rattle.rs_cert.specs.Records.{AreRecordsOf, HasFewRows, most_wanted};
 ghost use Rattle.rs_cert.specs.Writers.{IsReady, Wrote, text_in};
 ghost use Rattle.rs_cert.specs.Written.{AreWritablePairs, AreWritableRows, IsWritablePair, IsWritableRow, end_records, pair_record, row_record, side_records, text_of, wanted_record, written};

@@ -5,14 +5,12 @@ use Rattle.std.proofs.lemmas.Bool.{eqb-false, eqb-true, ltb-false, ltb-true}
 use Rattle.rs_query.specs.declared.query.Query.{Query}
 use Rattle.rs_query.specs.declared.query.Query.TheVariants.{One, Set}
 use Rattle.rs_sample.specs.Kept.{cards_of}
-use Rattle.rs_enum.specs.declared.block_grid.BlockGrid.{BlockGrid}
 use Rattle.rs_enum.specs.declared.candidate.Candidate.{Candidate}
 use Rattle.rs_enum.specs.declared.extent.Extent.{Extent}
 use Rattle.rs_enum.specs.declared.extent.Extent.TheVariants as whole
-use Rattle.rs_enum.specs.declared.grid.Grid.{Grid}
 use Rattle.rs_enum.specs.declared.planning.Planning.{Planning}
 use Rattle.rs_enum.specs.Given.{AreFound, AreSetFound, AreTopsOf, CanPlan, block_at, complete_of}
-use Rattle.rs_enum.specs.Grids.{IsGridOf, IsSearched, IsSearchedFor, cost_at, cost_within}
+use Rattle.rs_enum.specs.Grids.{BlockPlans, GridPlans, IsGridOf, IsSearched, IsSearchedFor, cost_at, cost_within}
 use Rattle.rs_enum.specs.LeastCosts.{HasBlock, HasCost}
 use Rattle.rs_enum.specs.Places.{candidate_at}
 use Rattle.rs_enum.specs.Tops.{extent_of}
@@ -21,9 +19,9 @@ use Rattle.rs_enum.proofs.SidesFacts.{KeepsLeast, keeps-least}
 use Rattle.rs_enum.proofs.WithinFacts.{entries-below, terms-below}
 
 -- where nothing was found
-pub cost-empty : (grid : BlockGrid) → grid.places.items ≡ [] → (first second : ℕ) → cost_within grid first second ≡ None
+pub cost-empty : (grid : BlockPlans) → grid.places ≡ [] → (first second : ℕ) → cost_within grid first second ≡ None
 cost-empty grid empty first second = go (nat_lt first (2 ^ grid.entries)) (nat_lt second (2 ^ grid.terms)) where
-  go : (x y : Bool) → (if x then (if y then found_cost (candidate_at grid.terms grid.places.items first second) else None) else None) ≡ None
+  go : (x y : Bool) → (if x then (if y then found_cost (candidate_at grid.terms grid.places first second) else None) else None) ≡ None
   go true true = ap (λ xs. found_cost (candidate_at grid.terms xs first second)) empty
   go true false = refl
   go false y = refl
@@ -33,13 +31,13 @@ module _ (planning : Planning) where
   CostsAre number first second cost = HasCost planning.catalog.now planning.query.now (cards_of planning.cards.now) number first second cost
 
   -- the costs of a block, also of masks that aren't there
-  within-costs : (number : ℕ) (grid : BlockGrid) → IsGridOf planning number grid → (first second : ℕ)
+  within-costs : (number : ℕ) (grid : BlockPlans) → IsGridOf planning number grid → (first second : ℕ)
       → CostsAre number first second (cost_within grid first second)
   within-costs number grid is first second = go (nat_lt first (2 ^ grid.entries)) (nat_lt second (2 ^ grid.terms)) refl refl where
     go : (x y : Bool) → nat_lt first (2 ^ grid.entries) ≡ x → nat_lt second (2 ^ grid.terms) ≡ y
-        → CostsAre number first second (if x then (if y then found_cost (candidate_at grid.terms grid.places.items first second) else None) else None)
+        → CostsAre number first second (if x then (if y then found_cost (candidate_at grid.terms grid.places first second) else None) else None)
     go true true row column =
-        subst (λ n. CostsAre number first second (found_cost (candidate_at n grid.places.items first second))) (sym is.terms)
+        subst (λ n. CostsAre number first second (found_cost (candidate_at n grid.places first second))) (sym is.terms)
         (is.found.costs first second (subst (λ n. first < 2 ^ n) is.entries (ltb-true first (2 ^ grid.entries) row))
         (subst (λ n. second < 2 ^ n) is.terms (ltb-true second (2 ^ grid.terms) column)))
     go true false row column = λ other of.
@@ -53,7 +51,7 @@ module _ (planning : Planning) where
         let same = of.its_entries in
         omega arith
 
-  module _ (grid : Grid) (first second : ℕ) where
+  module _ (grid : GridPlans) (first second : ℕ) where
     first-grid : (query : Query) → IsSearchedFor query planning grid → IsGridOf planning 1 grid.left
     first-grid (One block limit) is = is.left
     first-grid (Set op l r limit) is = is.left

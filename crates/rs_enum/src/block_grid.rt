@@ -29,7 +29,7 @@ pub(crate) struct BlockGrid {
 }
 
 impl BlockGrid {
-    ghost use Rattle.rs_enum.specs.Grids.{IsGridOf, cost_within};
+    ghost use Rattle.rs_enum.specs.Grids.{IsGridOf, cost_within, plans_within};
 
     /// Room for any block.
     pub(crate) fn make(alloc: Global) -> Result<BlockGrid, Memory>
@@ -55,7 +55,7 @@ impl BlockGrid {
         requires planning { CanPlan planning.now }
         requires number { IsBlockNumber (cards_of planning.now.cards.now) number }
         requires block { HasBlock planning.now.query.now number }
-        ensures { IsGridOf planning.now number self.new }
+        ensures { IsGridOf planning.now number (plans_within self.new) }
     {
         let block = block_in(planning.query, number);
         self.entries = block.from.len() as u8;
@@ -65,7 +65,7 @@ impl BlockGrid {
 
     /// The least cost that was found for a signature.
     pub(crate) fn cost(&self, entries: u8, terms: u8) -> Option<u128>
-        ensures { result ≡ cost_within self.now entries terms }
+        ensures { result ≡ cost_within (plans_within self.now) entries terms }
     {
         if entries as u32 >= masks(self.entries) || terms as u32 >= masks(self.terms) {
             return None;

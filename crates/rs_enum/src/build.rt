@@ -9,7 +9,7 @@ ghost use Rattle.rs_enum.specs.Within.{terms_within};
 
 use crate::candidate::{Candidate, Choice};
 use crate::find::{candidate_at, terms_inside};
-use crate::nodes::{distinct, hash_join, nested_join, rank};
+use crate::nodes::{hash_join, nested_join, rank, without_duplicates};
 use rs_plan::{Plan, Signature};
 use rs_query::Block;
 use rs_rank::mask_of;
@@ -68,7 +68,7 @@ pub(crate) fn build(
                 terms: of.terms,
             };
             let child = build(alloc, block, places, below)?;
-            distinct(alloc, child)
+            without_duplicates(alloc, child)
         }
     }
 }

@@ -29,6 +29,7 @@ use rs_rank::mask_of;
 use rs_sample::Cards;
 use rs_value::Memory;
 use std::alloc::Global;
+use std::marker::Model;
 
 /// What is found of the plans of a query: in each block for each signature, and for each mask of terms above a Distinct or above a
 /// set operator. It has room for any query, so that filling it again takes no memory.
@@ -39,6 +40,14 @@ pub struct Grid {
     /// For each mask of terms the plan that has the set operator of both blocks.
     pub(crate) both: Vec<Option<Candidate>>,
     ghost room: { 256 ≤ vec_capacity both },
+}
+
+impl Model for Grid {
+    ghost use Rattle.rs_enum.specs.Grids.{GridPlans, plans_within};
+
+    ghost Value = { GridPlans };
+
+    ghost view = { λ g. record { left = plans_within g.left; right = plans_within g.right; both = g.both.items } };
 }
 
 impl Grid {
@@ -140,7 +149,7 @@ impl Grid {
         requires planning { CanPlan planning.now }
         requires searched { IsSetSearched planning.now self.now }
         requires evaluated { evaluated < 2 ^ length (block_at planning.now 1).terms }
-        requires found { IsSome (candidate_at (length (block_at planning.now 1).terms) self.now.both.items 0 evaluated) }
+        requires found { IsSome (candidate_at (length (block_at planning.now 1).terms) self.now.both 0 evaluated) }
         requires both { IsExtent planning.now.query.now (cards_of planning.now.cards.now) whole.Both }
         ensures { IfOk result (λ plan. (is : IsSetSearched planning.now self.now) → plan_of (is.both.view evaluated) ≡ Some (tree_of plan)) }
     {
@@ -164,11 +173,11 @@ impl Grid {
         requires planning { CanPlan planning.now }
         requires searched { IsSetSearched planning.now self.now }
         requires evaluated { evaluated < 2 ^ length (block_at planning.now 1).terms }
-        requires left { IsSome (complete_of planning.now 1 self.now.left.places.items evaluated) }
-        requires right { IsSome (complete_of planning.now 2 self.now.right.places.items evaluated) }
+        requires left { IsSome (complete_of planning.now 1 self.now.left.places evaluated) }
+        requires right { IsSome (complete_of planning.now 2 self.now.right.places evaluated) }
         requires both { IsExtent planning.now.query.now (cards_of planning.now.cards.now) whole.Both }
-        ensures { IfOk result (λ plan. (l r : PlanTree) → plan_of (complete_of planning.now 1 self.now.left.places.items evaluated) ≡ Some l
-            → plan_of (complete_of planning.now 2 self.now.right.places.items evaluated) ≡ Some r → tree_of plan ≡ SetOperator l r) }
+        ensures { IfOk result (λ plan. (l r : PlanTree) → plan_of (complete_of planning.now 1 self.now.left.places evaluated) ≡ Some l
+            → plan_of (complete_of planning.now 2 self.now.right.places evaluated) ≡ Some r → tree_of plan ≡ SetOperator l r) }
     {
         let left = build_complete(
             alloc,

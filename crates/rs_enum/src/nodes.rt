@@ -33,7 +33,7 @@ pub(crate) fn nested_join(alloc: Global, left: Plan, right: Plan) -> Result<Plan
 }
 
 /// A plan whose duplicates are dropped.
-pub(crate) fn distinct(alloc: Global, child: Plan) -> Result<Plan, Memory>
+pub(crate) fn without_duplicates(alloc: Global, child: Plan) -> Result<Plan, Memory>
     ensures { IfOk result (λ plan. tree_of plan ≡ Distinct (tree_of child)) }
 {
     let child = Box::new(alloc, child)?;

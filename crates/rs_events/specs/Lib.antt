@@ -6,3 +6,4 @@ pub mod Halts
 pub mod HaltFaults
 pub mod Fetching
 pub mod Running
+pub mod Status

@@ -2,7 +2,7 @@
 //! of it is said for any type of fault.
 //!
 //! Its promise: a put and a fetch do exactly their event, or as much of it as the fault tells, whatever the type of faults.
-//! Events, runs, and how far the events of a run were done, are defined here.
+//! Events, runs, how far the events of a run were done, and with which status a run ends, are defined here.
 #![tactic(auto)]
 
 mod file;
@@ -10,9 +10,11 @@ mod halt_fault;
 mod host;
 mod objects;
 mod put;
+mod status;
 
 pub use file::fetch_file;
 pub use halt_fault::HaltFault;
 pub use host::Host;
 pub use objects::Objects;
 pub use put::put_text;
+pub use status::Status;

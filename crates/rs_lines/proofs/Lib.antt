@@ -1,1 +1,2 @@
+pub mod RecordsFacts
 pub mod Worked

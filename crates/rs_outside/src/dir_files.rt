@@ -71,7 +71,7 @@ fn append_rest<F: Read>(
     let mut room = limit;
     loop {
         let most = CHUNK.min(room.saturating_add(1));
-        let count = match file.read_some(&mut chunk[..most]) {
+        let count = match file.read(&mut chunk[..most]) {
             Ok(0) => return Ok(()),
             Ok(count) => count,
             Err(error) => return Err(fault_at_read(&error)),

@@ -20,5 +20,5 @@ pub use files::{FetchFault, Files};
 pub use mem_files::MemFiles;
 pub use mem_sink::MemSink;
 pub use out_sink::OutSink;
-pub use reading::Reading;
+pub use reading::{Reading, read_some};
 pub use sink::{Sink, SinkFault};

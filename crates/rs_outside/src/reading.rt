@@ -30,32 +30,35 @@ impl<F: Read> Reading<F> {
         self.last
     }
 
-    /// One read.
-    fn read(&mut self, chunk: &mut [u8]) -> io::Result<usize>
+    /// Reads some bytes as `read_some` does, and keeps what the reader answered.
+    pub(crate) fn read(&mut self, chunk: &mut [u8]) -> io::Result<usize>
         ensures bound { ReadsAtMost result chunk.new }
         ensures bytes { ReadConsumes (F.remaining self.old.reader) (F.remaining self.new.reader) result chunk.new }
         ensures last { self.new.last ≡ Some (read_answer result) }
     {
-        let result = self.reader.read(chunk);
+        let result = read_some(&mut self.reader, chunk);
         self.last = Some(match &result {
             Ok(count) => Ok(*count),
             Err(error) => Err(error.kind()),
         });
         result
     }
+}
 
-    /// One read, tried again where a signal interrupts it.
-    pub(crate) fn read_some(&mut self, chunk: &mut [u8]) -> io::Result<usize>
-        ensures bound { ReadsAtMost result chunk.new }
-        ensures bytes { ReadConsumes (F.remaining self.old.reader) (F.remaining self.new.reader) result chunk.new }
-        ensures last { self.new.last ≡ Some (read_answer result) }
-    {
-        for _ in 0..u64::MAX {
-            match self.read(chunk) {
-                Err(error) if error.kind() == ErrorKind::Interrupted => {}
-                result => return result,
-            }
+/// Reads some bytes: one read, tried again where a signal interrupts it. What was interrupted took nothing.
+///
+/// # Errors
+///
+/// - `Err`: exactly where the last read failed, with its error.
+pub fn read_some<R: Read>(reader: &mut R, chunk: &mut [u8]) -> io::Result<usize>
+    ensures bound { ReadsAtMost result chunk.new }
+    ensures bytes { ReadConsumes (R.remaining reader.old) (R.remaining reader.new) result chunk.new }
+{
+    for _ in 0..u64::MAX {
+        match reader.read(chunk) {
+            Err(error) if error.kind() == ErrorKind::Interrupted => {}
+            result => return result,
         }
-        self.read(chunk)
     }
+    reader.read(chunk)
 }

@@ -1,13 +1,12 @@
 -- How the program ends.
-use Rattle.std.specs.Prelude.{ℕ, ◌≡◌, List, Option, Result}
+use Rattle.std.specs.Prelude.{ℕ, ◌≡◌, List, Option, Result, codes}
 use Rattle.std.specs.Process.{exit_status}
 use Rattle.std.specs.declared.process.ExitCode.{ExitCode}
 use denote.Ref.{Bor, MutBor}
 use Rattle.rs_outside.specs.Sink.{Puts}
 use Rattle.rs_outside.specs.declared.sink.SinkFault.{SinkFault}
-use Rattle.rs_run.specs.Faults.{run_fault_line, run_faults}
-use Rattle.rs_run.specs.Status.{exit_status_of}
-use Rattle.rs_run.specs.declared.status.Status.{Status}
+use Rattle.rs_events.specs.Status.{exit_status_of}
+use Rattle.rs_events.specs.declared.status.Status.{Status}
 
 -- what a run acts on
 pub record Objects (F S O E : Type 0) : Type 0 where
@@ -46,6 +45,10 @@ abbrev pub EndsAsRun : {A F S O E : Type 0} → Running A F S O E → A → List
 EndsAsRun call alloc words before exit after =
     (status : Status) × RanOnce call alloc words before status after × (exit_status exit ≡ exit_status_of status)
 
--- one put of the line of Memory, which may have failed
+-- the line of a run that ends for want of memory
+abbrev pub memory_line : List ℕ
+memory_line = codes "memory\n"
+
+-- one put of it, which may have failed
 abbrev pub SaysNoMemory : Option (List (List ℕ)) → Option (List (List ℕ)) → Type 0
-SaysNoMemory before after = (put : Result (Unit {0}) SinkFault) × Puts (run_fault_line run_faults.memory) put before after
+SaysNoMemory before after = (put : Result (Unit {0}) SinkFault) × Puts memory_line put before after

@@ -1,10 +1,10 @@
 ghost use Rattle.std.specs.Prelude.{◌≡◌, IfOk, OnErr};
 ghost use Rattle.std.specs.Process.{exit_status};
-ghost use Rattle.rs_run.specs.Status.{exit_status_of};
+ghost use Rattle.rs_events.specs.Status.{exit_status_of};
 ghost use Rattle.rs_program.specs.Program.{EndsAsRun, SaysNoMemory, objects};
 
+use rs_events::Status;
 use rs_outside::Sink;
-use rs_run::Status;
 use rs_value::{Memory, Text};
 use std::alloc::Global;
 use std::process::ExitCode;

@@ -1,7 +1,7 @@
 -- The view of a DECLARE is held under its name, with its query, until a CLOSE of the name.
-use Rattle.std.proofs.Common.{ℕ, ◌≡◌, ◌∙◌, ◌==◌, ◌++◌, Bool, true, false, cond, List, [], ◌∷◌, length, map, refl, sym, ap, subst}
+use Rattle.std.proofs.Common.{ℕ, ◌≡◌, ◌∙◌, ◌++◌, Bool, true, false, cond, List, [], ◌∷◌, map, refl, sym, ap, subst}
 use Rattle.std.specs.Prelude.{not, Result, Ok, Err, if◌then◌else◌}
-use Rattle.std.specs.List.{filter, flat_map}
+use Rattle.std.specs.List.{flat_map}
 use Rattle.std.specs.Str.{bytes_eq}
 use Rattle.std.proofs.lemmas.Bool.{or_parts}
 use Rattle.std.proofs.lemmas.Cmp.{nat_list_eq_equiv}
@@ -10,7 +10,6 @@ use Rattle.rs_syntax.specs.Syntax as syntax
 use Rattle.rs_syntax.specs.declared.name.Name.{Name}
 use Rattle.rs_expr.specs.Scoring.{Answering}
 use Rattle.rs_catalog.specs.Catalog.{CatalogDef, has_name}
-use Rattle.rs_catalog.specs.declared.room.RoomFault.TheVariants as room
 use Rattle.rs_bind.specs.Queries.{bound_query}
 use Rattle.rs_query.specs.declared.query.Query.{Query}
 use Rattle.rs_view.specs.Fresh.{whole_view}
@@ -20,12 +19,13 @@ use Rattle.rs_outside.specs.Files.{Finds}
 use Rattle.rs_events.specs.Sequence.{Step}
 use Rattle.rs_statement.specs.declared.fault.Fault.{Fault}
 use Rattle.rs_statement.specs.declared.evaluating.Evaluating.TheVariants.{Plainly}
-use Rattle.rs_statement.specs.Session.{most_cursors, or_session_fault}
+use Rattle.rs_statement.specs.Named as named
+use Rattle.rs_statement.proofs.EntryFacts.{room-free}
 use Rattle.rs_statement.specs.Statements.{Does}
 use Rattle.rs_statement.specs.Steps as statement
 use Rattle.rs_run.specs.declared.fault.RunFault.{RunFault}
 use Rattle.rs_run.specs.Reached.{AreNotClosed, IsNotClosed, LeadsByViews}
-use Rattle.rs_run.specs.Viewing.{DoesByViews, HeldView, Kept, ViewState, grown_view, growth_questions, room_for_view, view_named}
+use Rattle.rs_run.specs.Viewing.{DoesByViews, HeldView, Kept, ViewState, grown_view, growth_questions, view_named}
 use Rattle.rs_run.proofs.NumberedFacts.{numbered-ok}
 use Rattle.rs_run.proofs.ViewLeft.{IsMaking, view-step}
 
@@ -34,13 +34,6 @@ named_by here held rest = if here then Ok held.1 else rest
 
 abbrev names_in : List HeldView → List (List ℕ)
 names_in views = map (λ (held : HeldView). held.0) views
-
--- where there is room for a name, no view has it
-room-free : (name : List ℕ) (views : List HeldView) → room_for_view name views ≡ Ok tt → has_name name (names_in views) ≡ false
-room-free name views = go (has_name name (names_in views)) where
-  go : (b : Bool) → or_session_fault name (if b then Err room.NameTaken else if length (names_in views) == most_cursors then Err room.Full else Ok tt) ≡ Ok tt → b ≡ false
-  go true e = absurd cc
-  go false e = refl
 
 -- a new view is found by its name
 named-last : (name : List ℕ) (views : List HeldView) (view : ViewDef) → has_name name (names_in views) ≡ false → view_named name (views ++ (name, view) ∷ []) ≡ Ok view
@@ -66,7 +59,7 @@ module _ (name : List ℕ) where
     go rest false e = rest e
 
   abbrev without : List ℕ → List HeldView → List HeldView
-  without own views = filter (λ (held : HeldView). not (bytes_eq held.0 own)) views
+  without own views = named.without (λ (held : HeldView). held.0) own views
 
   found-without : (own : List ℕ) (views : List HeldView) (view : ViewDef) → bytes_eq name own ≡ false → view_named name views ≡ Ok view → view_named name (without own views) ≡ Ok view
   found-without own [] view other e = absurd cc
@@ -147,7 +140,7 @@ module _ (answer : Answering) (finds : Finds) where
         keepable = keepable;
         holds = record {
           view = view;
-          found = named-last own.text kept.views view (room-free own.text kept.views room);
+          found = named-last own.text kept.views view (room-free own.text (names_in kept.views) room);
           same = made-query answer kept.catalogue bound view gives;
         };
       })

@@ -132,9 +132,6 @@ module _ {F : Type 0} (told : Fault → F) (of : List Command → events.Run F �
       go (Ok script) e = let text = text-has_run script in (behind (Fetch name ∷ []) text.0, text.0.events, read there script text.0 found e text.1, refl)
 
 module _ (finds : Finds) (has : HasFiles finds) (answer : Answering) (evaluating : Evaluating) where
-  pub each_text : (script : List ℕ) → (run : Run) × TextRuns as_it_is (StatementsRun finds answer evaluating) script run
-  each_text = text-has_run as_it_is (StatementsRun finds answer evaluating) (each_statements finds has answer evaluating)
-
   pub each_script : (name : List ℕ) (there : Option (List ℕ)) → finds name there
       → (run : Run) × (more : List Event) × ScriptRuns as_it_is finds (StatementsRun finds answer evaluating) name run × (run.events ≡ Fetch name ∷ more)
   each_script = script-has_run as_it_is (StatementsRun finds answer evaluating) (each_statements finds has answer evaluating) finds

@@ -28,6 +28,7 @@ use Rattle.rs_statement.specs.Lines.{rank_lines}
 use Rattle.rs_statement.specs.Session.{State, beside_cursors}
 use Rattle.rs_statement.specs.Statements.{Does, answer_lines, or_bind_fault, query_outcome, query_step, refused_or}
 use Rattle.rs_statement.specs.Steps as statement
+use Rattle.rs_statement.proofs.EntryFacts.{each-named}
 use Rattle.rs_run.specs.declared.fault.RunFault.{RunFault}
 use Rattle.rs_run.specs.Later.{LeadsTo}
 use Rattle.rs_run.specs.Reached.{LeadsByViews, PutsAsPlain, bare, without_views}
@@ -48,12 +49,7 @@ left outcome e = ap (λ (o : Result CatalogDef Fault). o >>= λ c. Ok (bare c)) 
 module _ (answer : Answering) where
   -- a view that is held by a name is one that has its answer
   pub named-has : (catalogue : CatalogDef) (name : List ℕ) (views : List HeldView) (view : ViewDef) → AllHave answer catalogue views → view_named name views ≡ Ok view → HasItsAnswer answer catalogue view
-  named-has catalogue name [] view all e = absurd cc
-  named-has catalogue name (held ∷ views) view all e = go (named-has catalogue name views view all.1) (bytes_eq held.0 name) e where
-    go : (view_named name views ≡ Ok view → HasItsAnswer answer catalogue view) → (b : Bool) → (if b then Ok held.1 else view_named name views) ≡ Ok view
-        → HasItsAnswer answer catalogue view
-    go rest true e = let is : held.1 ≡ view = cc in subst (HasItsAnswer answer catalogue) is all.0
-    go rest false e = rest e
+  named-has catalogue name views view = each-named (HasItsAnswer answer catalogue) (λ (held : HeldView). held.0) (λ (held : HeldView). held.1) name views view
 
   -- a plain query that gives these rows puts their lines
   pub plain-puts : (catalogue : CatalogDef) (query : Query) (rows : List Answer) → (evaluation_of answer catalogue query (all_rows catalogue query)).outcome ≡ Ok rows

@@ -1,12 +1,9 @@
--- The held views as a map by name: what a look-up, a removal and a new entry are to the list of views, and which of them stand.
-use Rattle.std.proofs.Common.{ℕ, ◌≡◌, ◌∙◌, Bool, true, false, cond, List, [], ◌∷◌, ◌++◌, zero, suc, length, eqb, eq-eqb, append-nil, refl, sym, ap, subst}
-use Rattle.std.specs.Prelude.{not, Option, Some, None, Result, Ok, Err, if◌then◌else◌, option_map, slice_get}
-use Rattle.std.specs.List.{AllByRecursion, filter}
-use Rattle.std.specs.Map.{keys_of, lookup, remove_entry}
-use Rattle.std.specs.Str.{bytes_eq}
+-- Which held views stand: those that are written, and all behind a statement.
+use Rattle.std.proofs.Common.{ℕ, ◌≡◌, ◌∙◌, List, [], ◌∷◌, ◌++◌, zero, suc, append-nil, refl, sym, ap, subst}
+use Rattle.std.specs.Prelude.{Option, Some, Ok, option_map, slice_get}
+use Rattle.std.specs.List.{AllByRecursion}
 use Rattle.indexmap.specs.IndexMap.{set_value_at}
-use Rattle.rs_catalog.specs.Catalog.{CatalogDef, has_name}
-use Rattle.rs_catalog.specs.declared.room.RoomFault.TheVariants as room
+use Rattle.rs_catalog.specs.Catalog.{CatalogDef}
 use Rattle.rs_expr.specs.Scoring.{Answering}
 use Rattle.rs_value.specs.declared.value.Value.{Value}
 use Rattle.rs_syntax.specs.Syntax.{Command}
@@ -23,101 +20,12 @@ use Rattle.rs_statement.specs.declared.evaluating.Evaluating.TheVariants.{Plainl
 use Rattle.rs_statement.specs.Statements.{Does}
 use Rattle.rs_statement.specs.Steps as statement
 use Rattle.rs_statement.proofs.HeldSteps.{kept-step}
-use Rattle.rs_statement.specs.declared.fault.Fault.{Fault}
-use Rattle.rs_statement.specs.declared.fault.Fault.TheVariants.{Session}
-use Rattle.rs_statement.specs.declared.fault.SessionFault.TheVariants.{NameTaken, Unknown, Full}
-use Rattle.rs_statement.specs.Session.{most_cursors, or_session_fault}
-use Rattle.rs_statement.proofs.SessionFacts.{is_key, length-keys, not-eqb, same_name}
 use Rattle.rs_view.specs.Views.{Stands, ViewDef}
 use Rattle.rs_run.specs.Parts.Holding.{AllStand}
-use Rattle.rs_run.specs.Viewing.{HeldView, room_for_view, view_named}
+use Rattle.rs_run.specs.Viewing.{HeldView}
 
--- whether a view can be held, by the two tests
-abbrev room_by : List ℕ → Bool → Bool → Result (Unit {0}) Fault
-room_by name taken full = or_session_fault name (if taken then Err room.NameTaken else if full then Err room.Full else Ok tt)
-
-pub room-taken : (name : List ℕ) (views : List HeldView) → has_name name (keys_of views) ≡ true → room_for_view name views ≡ Err (Session NameTaken name)
-room-taken name views taken = ap (λ b. room_by name b (eqb (length (keys_of views)) most_cursors)) taken
-
-pub room-full : (name : List ℕ) (views : List HeldView) → has_name name (keys_of views) ≡ false → length views ≡ most_cursors → room_for_view name views ≡ Err (Session Full name)
-room-full name views free full =
-    let many : eqb (length (keys_of views)) most_cursors ≡ true = eq-eqb (length (keys_of views)) most_cursors (length-keys views ∙ full) in
-    λ i. room_by name (free i) (many i)
-
-pub room-some : (name : List ℕ) (views : List HeldView) → has_name name (keys_of views) ≡ false → (length views ≡ most_cursors → ⊥) → room_for_view name views ≡ Ok tt
-room-some name views free few =
-    let less : eqb (length (keys_of views)) most_cursors ≡ false = not-eqb (length (keys_of views)) most_cursors (λ e. few (sym (length-keys views) ∙ e)) in
-    λ i. room_by name (free i) (less i)
-
--- a name is looked up
-abbrev named_by : Bool → HeldView → Result ViewDef Fault → Result ViewDef Fault
-named_by here held rest = if here then Ok held.1 else rest
-
-pub view-none : (name : List ℕ) (views : List HeldView) → lookup (is_key name) views ≡ None → view_named name views ≡ Err (Session Unknown name)
-view-none name [] none = refl
-view-none name (held ∷ views) none =
-    ap (λ b. named_by b held (view_named name views)) (sym (same_name name held.0)) ∙ go (view-none name views) (is_key name held.0) none where
-      go : (lookup (is_key name) views ≡ None → view_named name views ≡ Err (Session Unknown name))
-          → (b : Bool) → cond b (Some held.1) (lookup (is_key name) views) ≡ None → named_by b held (view_named name views) ≡ Err (Session Unknown name)
-      go rest true none = absurd cc
-      go rest false none = rest none
-
-pub view-some : (name : List ℕ) (views : List HeldView) (view : ViewDef) → lookup (is_key name) views ≡ Some view → view_named name views ≡ Ok view
-view-some name [] view some = absurd cc
-view-some name (held ∷ views) view some =
-    ap (λ b. named_by b held (view_named name views)) (sym (same_name name held.0)) ∙ go (view-some name views view) (is_key name held.0) some where
-      go : (lookup (is_key name) views ≡ Some view → view_named name views ≡ Ok view)
-          → (b : Bool) → cond b (Some held.1) (lookup (is_key name) views) ≡ Some view → named_by b held (view_named name views) ≡ Ok view
-      go rest true some = let own : held.1 ≡ view = cc in ap Ok own
-      go rest false some = rest some
-
--- all keys of these views are other names
-abbrev AreOthers : List ℕ → List HeldView → Type 0
-AreOthers name views = AllByRecursion (λ key. is_key name key ≡ false) (keys_of views)
-
-others-none : (name : List ℕ) (views : List HeldView) → lookup (is_key name) views ≡ None → AreOthers name views
-others-none name [] none = tt
-others-none name (held ∷ views) none = go (others-none name views) (is_key name held.0) refl none where
-  go : (lookup (is_key name) views ≡ None → AreOthers name views) → (b : Bool) → is_key name held.0 ≡ b → cond b (Some held.1) (lookup (is_key name) views) ≡ None → AreOthers name (held ∷ views)
-  go rest true is none = absurd cc
-  go rest false is none = (is, rest none)
-
-module _ (name : List ℕ) where
-  -- the views without those of the name
-  abbrev without : List HeldView → List HeldView
-  without views = filter (λ (held : HeldView). not (bytes_eq held.0 name)) views
-
-  without-first : (held : HeldView) (views : List HeldView) (b : Bool) → is_key name held.0 ≡ b → without (held ∷ views) ≡ cond (not b) (held ∷ without views) (without views)
-  without-first held views b is = ap (λ b. cond (not b) (held ∷ without views) (without views)) (sym (same_name name held.0) ∙ is)
-
-  kept-others : (views : List HeldView) → AreOthers name views → without views ≡ views
-  kept-others [] others = refl
-  kept-others (held ∷ views) others = without-first held views false others.0 ∙ ap (λ rest. held ∷ rest) (kept-others views others.1)
-
-  -- without the entry of a name the view of the name is gone, and all others stay in their order
-  pub views-remove : (views : List HeldView) → lookup (is_key name) (remove_entry (is_key name) views) ≡ None → remove_entry (is_key name) views ≡ without views
-  views-remove [] none = refl
-  views-remove (held ∷ views) none = go (views-remove views) (is_key name held.0) refl none ∙ sym (without-first held views (is_key name held.0) refl) where
-    go : (lookup (is_key name) (remove_entry (is_key name) views) ≡ None → remove_entry (is_key name) views ≡ without views)
-        → (b : Bool) → is_key name held.0 ≡ b → lookup (is_key name) (cond b views (held ∷ remove_entry (is_key name) views)) ≡ None
-        → cond b views (held ∷ remove_entry (is_key name) views) ≡ cond (not b) (held ∷ without views) (without views)
-    go rest true is none = sym (kept-others views (others-none name views none))
-    go rest false is none = ap (λ more. held ∷ more) (rest (sym (ap (λ b. cond b (Some held.1) (lookup (is_key name) (remove_entry (is_key name) views))) is) ∙ none))
-
--- views that stand
+-- with another view at a place, all stand where that one does
 module _ (answer : Answering) (catalogue : CatalogDef) where
-  pub stand-append : (views : List HeldView) (name : List ℕ) (view : ViewDef) → AllStand answer catalogue views → Stands answer catalogue view
-      → AllStand answer catalogue (views ++ (name, view) ∷ [])
-  stand-append [] name view all one = (one, tt)
-  stand-append (held ∷ views) name view all one = (all.0, stand-append views name view all.1 one)
-
-  pub stand-remove : (test : List ℕ → Bool) (views : List HeldView) → AllStand answer catalogue views → AllStand answer catalogue (remove_entry test views)
-  stand-remove test [] all = tt
-  stand-remove test (held ∷ views) all = go (stand-remove test views all.1) (test held.0) where
-    go : AllStand answer catalogue (remove_entry test views) → (b : Bool) → AllStand answer catalogue (cond b views (held ∷ remove_entry test views))
-    go rest true = all.1
-    go rest false = (all.0, rest)
-
   pub stand-set : (views : List HeldView) (i : ℕ) (view : ViewDef) → AllStand answer catalogue views → Stands answer catalogue view → AllStand answer catalogue (set_value_at views i view)
   stand-set [] i view all one = tt
   stand-set (held ∷ views) zero view all one = (one, all.1)
@@ -170,12 +78,3 @@ pub stand-step : (answer : Answering) (catalogue : CatalogDef) (finds : Finds) (
     → AllStand answer catalogue views → IsWritten command → Does finds answer Plainly catalogue command step → step.outcome ≡ Ok next → AllStand answer next views
 stand-step answer catalogue finds command step next views on all written does leaves =
     stand-on answer on catalogue next (grows-step answer catalogue finds command step next written does leaves) views all
-
--- a view that is held by a name stands
-pub stand-named : (answer : Answering) (catalogue : CatalogDef) (name : List ℕ) (views : List HeldView) (view : ViewDef) → AllStand answer catalogue views → lookup (is_key name) views ≡ Some view
-    → Stands answer catalogue view
-stand-named answer catalogue name [] view all some = absurd cc
-stand-named answer catalogue name (held ∷ views) view all some = go (stand-named answer catalogue name views view all.1) (is_key name held.0) some where
-  go : (lookup (is_key name) views ≡ Some view → Stands answer catalogue view) → (b : Bool) → cond b (Some held.1) (lookup (is_key name) views) ≡ Some view → Stands answer catalogue view
-  go rest true some = let own : held.1 ≡ view = cc in subst (Stands answer catalogue) own all.0
-  go rest false some = rest some

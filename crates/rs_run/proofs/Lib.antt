@@ -17,6 +17,8 @@ pub mod OutcomeFacts
 pub mod OneRun
 pub mod SameScripts
 pub mod LaterFacts
+pub mod RestFacts
+pub mod WorkedRests
 pub mod HeldFacts
 pub mod GrowthSteps
 pub mod ViewSteps

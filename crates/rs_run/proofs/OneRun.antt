@@ -113,7 +113,7 @@ IsRunOf-one finds one answer (Check file) run other p q = absurd p
 IsRunOf-one finds one answer (Views name) run other p q = absurd p
 
 -- a statement does one thing at most where queries are answered by scans
-DoesByScan-one : (finds : Finds) → OneFile finds → (answer : Answering) (number : ℕ) (catalogue : CatalogDef) (command : Command) (a b : Step RunFault CatalogDef)
+pub DoesByScan-one : (finds : Finds) → OneFile finds → (answer : Answering) (number : ℕ) (catalogue : CatalogDef) (command : Command) (a b : Step RunFault CatalogDef)
     → DoesByScan finds answer number catalogue command a → DoesByScan finds answer number catalogue command b → a ≡ b
 DoesByScan-one finds one answer number catalogue command a b p q = go command p q where
   same : (command : Command) → (own : statement.Step CatalogDef) × Does finds answer Plainly catalogue command own × (a ≡ told_step Statement own)
@@ -153,7 +153,7 @@ DoesKept-one finds one answer kept command a b p q = go command p q where
   go (Explain query) p q = same (Explain query) (beside_views kept.views) p q
   go (ExplainAnalyze query) p q = same (ExplainAnalyze query) (beside_views kept.views) p q
 
-DoesByViews-one : (finds : Finds) → OneFile finds → (answer : Answering) (number : ℕ) (kept : Kept) (command : Command) (a b : Step RunFault Kept)
+pub DoesByViews-one : (finds : Finds) → OneFile finds → (answer : Answering) (number : ℕ) (kept : Kept) (command : Command) (a b : Step RunFault Kept)
     → DoesByViews finds answer number kept command a → DoesByViews finds answer number kept command b → a ≡ b
 DoesByViews-one finds one answer number kept command a b p q = go command p q where
   same : (command : Command) → (own : statement.Step Kept) × DoesKept finds answer kept command own × (a ≡ told_step Statement own)

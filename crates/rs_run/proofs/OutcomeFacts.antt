@@ -12,8 +12,8 @@ use Rattle.rs_events.specs.Running.{Runs}
 use Rattle.rs_statement.specs.declared.fault.Fault.TheVariants as of_statement
 use Rattle.rs_run.specs.declared.fault.RunFault.{RunFault}
 use Rattle.rs_run.specs.declared.fault.RunFault.TheVariants.{CertForm, CertTooLong, NotEligible, Order, Statement, Usage}
-use Rattle.rs_run.specs.declared.status.Status.{Status}
-use Rattle.rs_run.specs.declared.status.Status.TheVariants as status
+use Rattle.rs_events.specs.declared.status.Status.{Status}
+use Rattle.rs_events.specs.declared.status.Status.TheVariants as status
 use Rattle.rs_run.specs.Faults.{WordsRun, run_faults, status_of}
 use Rattle.rs_run.specs.Outcome.{FormRunsTo, HasCause, Outcome, Reports, RunEnds}
 use Rattle.rs_run.specs.Running.{OfForm}

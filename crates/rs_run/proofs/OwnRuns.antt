@@ -63,7 +63,8 @@ use Rattle.rs_statement.specs.Lines.{rank_lines}
 use Rattle.rs_statement.specs.declared.evaluating.Evaluating.{Evaluating}
 use Rattle.rs_statement.specs.declared.evaluating.Evaluating.TheVariants.{Plainly, Planned}
 use Rattle.rs_statement.specs.declared.sampling.Sampling.TheVariants.{ByScores}
-use Rattle.rs_statement.specs.Session.{DoesInSession, State, StatementsRun, beside_cursors, most_cursors, nothing, or_session_fault}
+use Rattle.rs_statement.specs.Named.{most_named, or_session_fault}
+use Rattle.rs_statement.specs.Session.{DoesInSession, State, StatementsRun, beside_cursors, nothing}
 use Rattle.rs_statement.proofs.OwnFaults.{IsOwn, Own, OwnEnd, Own-content, Own-ranking, Own-statements, Own-table, Own-then, OwnRanking-scored}
 
 -- the text of a script
@@ -304,7 +305,7 @@ Own-room name (Err why) = tt
 Own-named : (answer : Answering) (name : List ℕ) (kept : Kept) (query : Query) → Own (named_step answer name kept query).outcome
 Own-named answer name kept query =
     Own-refused (λ room. made_step answer name kept query) (room_for_view name kept.views)
-    (Own-room name (room_in name most_cursors (map (λ (held : HeldView). held.0) kept.views))) (λ room. Own-made answer name kept query)
+    (Own-room name (room_in name most_named (map (λ (held : HeldView). held.0) kept.views))) (λ room. Own-made answer name kept query)
 
 OwnOutcome-viewed : (answer : Answering) (number : ℕ) (name : List ℕ) (kept : Kept) (query : Query) → OwnOutcome (viewed_step answer number name kept query).outcome
 unfolding OwnOutcome OwnTold

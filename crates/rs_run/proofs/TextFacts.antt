@@ -23,8 +23,6 @@ use Rattle.rs_events.specs.HaltFaults.{HaltFaults}
 use Rattle.rs_events.specs.Run as events
 use Rattle.rs_events.specs.Running as running
 use Rattle.rs_statement.specs.Parts.Steps.{FetchesFile}
-use Rattle.rs_run.specs.declared.fault.RunFault.TheVariants.{Statement}
-use Rattle.rs_run.specs.Faults.{run_faults}
 use Rattle.rs_run.specs.Parts.Read.{IsSource}
 use Rattle.rs_run.specs.Parts.Script.{IsRefused, IsScriptRead, ScriptRead, TellScript}
 use Rattle.rs_run.specs.Plain.{HasStatements, HasTokens, ScriptRuns, TextRuns, as_it_is, read, runs, unlexed, unparsed, unread}
@@ -168,13 +166,6 @@ FetchesFile-told {F} {A} told memory Tells name memory_is tell fault gives old n
         ];
       }))
       go (inr fetched) = inr (record { fetched = fetched.fetched; answers = elim fetched.answers [ inl e ↦ inl (e, refl) | inr e ↦ inr (none e) ] })
-
--- the faults of statements as they are, and as those of words
-pub tells-as_it_is : TellScript as_it_is statement_faults
-tells-as_it_is = record { memory = refl; failed_fetch = λ name fault is. is }
-
-pub tells-words : TellScript Statement run_faults
-tells-words = record { memory = refl; failed_fetch = λ name fault is. ap Statement is }
 
 -- the run of a script over what a fetch found
 module _ {F : Type 0} (told : Fault → F) (faults : HaltFaults F) (tell : TellScript told faults) (name : List ℕ) (environment : Environment) (files : FilesState) where

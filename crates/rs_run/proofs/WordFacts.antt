@@ -1,13 +1,10 @@
 -- The numbers of the words of a command line.
 use Rattle.std.proofs.Common.{ℕ, ◌≡◌, ◌≤◌, Bool, true, false, cond, nat_le, List, [], ◌∷◌, ◌&&◌, length, Option, Some, None, IfSome, refl, subst, arith}
-use Rattle.std.specs.Prelude.{codes, option_map}
 use Rattle.std.specs.Str.{bytes_eq}
 use Rattle.std.proofs.lemmas.Bool.Decides.{nat_tests}
 use Rattle.rs_value.specs.Number.{are_digits, decimal_value, number_of}
-use Rattle.rs_statement.specs.declared.evaluating.Evaluating.TheVariants.{Plainly, Planned}
-use Rattle.rs_statement.specs.declared.sampling.Sampling.TheVariants.{ByScores}
 use Rattle.rs_run.specs.Parts.CommandLine.{HasCertCount}
-use Rattle.rs_run.specs.Words.{Certify, Check, Feed, Form, RunGenerated, RunScript, Threshold, Top, Views, at_least, cert_form, check_form, feed_form, first_some, form_of, gen_form, number_word, of_both, plain_form, run_form, ta_form, top_form, view_form}
+use Rattle.rs_run.specs.Words.{Arguments, Form, Make, Name, Number, WordForm, at_least, first_form, first_some, form_by, form_of, forms, made_of, number_word, of_number}
 
 -- so many pairs are wanted, if a certificate is
 abbrev HasCount : Option Form → Type 0
@@ -43,78 +40,43 @@ number-most least most word =
     where-most most (nat_le (length word) 20) (at_least least (decimal_value most word))
     (at-least-most least most (decimal_value most word) (tested most (number_of word) (are_digits word)))
 
--- each form by itself
-of-both-has : (make : ℕ → ℕ → Form) → ((m n : ℕ) → HasCertCount (make m n)) → (first second : Option ℕ) → HasCount (of_both make first second)
-of-both-has make has (Some m) (Some n) = has m n
-of-both-has make has (Some m) None = tt
-of-both-has make has None second = tt
+-- all that can be made of arguments has so many pairs
+abbrev AllHave : Arguments → Type 0
+AllHave (Make form) = HasCertCount form
+AllHave (Name shown next) = (name : List ℕ) → AllHave (next name)
+AllHave (Number shown least most next) = (number : ℕ) → number ≤ most → AllHave (next number)
 
-of-one-has : (make : ℕ → Form) → ((n : ℕ) → HasCertCount (make n)) → (number : Option ℕ) → HasCount (option_map make number)
-of-one-has make has (Some n) = has n
-of-one-has make has None = tt
+of-number-has : (make : ℕ → Option Form) (most : ℕ) → ((n : ℕ) → n ≤ most → HasCount (make n)) → (number : Option ℕ) → IfSome number (λ n. n ≤ most) → HasCount (of_number make number)
+of-number-has make most has (Some n) le = has n le
+of-number-has make most has None le = tt
 
-cert-has : (left right : List ℕ) (number : Option ℕ) → IfSome number (λ n. n ≤ 1000000) → HasCount (option_map (λ count. Certify (record { left = left; right = right; count = count })) number)
-cert-has left right None most = tt
-cert-has left right (Some n) most = most
+made-has : (arguments : Arguments) → AllHave arguments → (words : List (List ℕ)) → HasCount (made_of arguments words)
+made-has (Make form) all [] = all
+made-has (Make form) all (word ∷ rest) = tt
+made-has (Name shown next) all [] = tt
+made-has (Name shown next) all (word ∷ rest) = made-has (next word) (all word) rest
+made-has (Number shown least most next) all [] = tt
+made-has (Number shown least most next) all (word ∷ rest) =
+    of-number-has (λ number. made_of (next number) rest) most (λ n le. made-has (next n) (all n le) rest) (number_word least most word) (number-most least most word)
 
--- the words by their number
-of-two : (words : List (List ℕ)) → HasCount (plain_form words) × HasCount (ta_form words) × HasCount (check_form words) × HasCount (view_form words)
-of-two [] = (tt, tt, tt, tt)
-of-two (a ∷ []) = (tt, tt, tt, tt)
-of-two (a ∷ b ∷ []) = (
-  where-has (bytes_eq a (codes "plain")) (Some (RunScript b Plainly)) tt,
-  where-has (bytes_eq a (codes "ta")) (Some (Threshold b)) tt,
-  where-has (bytes_eq a (codes "check")) (Some (Check b)) tt,
-  where-has (bytes_eq a (codes "view")) (Some (Views b)) tt,
-)
-of-two (a ∷ b ∷ c ∷ rest) = (tt, tt, tt, tt)
+by-has : (form : WordForm) → AllHave form.arguments → (words : List (List ℕ)) → HasCount (form_by form words)
+by-has form all [] = tt
+by-has form all (word ∷ rest) = where-has (bytes_eq word form.word) (made_of form.arguments rest) (made-has form.arguments all rest)
 
-of-three : (words : List (List ℕ)) → HasCount (run_form words) × HasCount (gen_form words)
-of-three [] = (tt, tt)
-of-three (a ∷ []) = (tt, tt)
-of-three (a ∷ b ∷ []) = (tt, tt)
-of-three (a ∷ b ∷ c ∷ []) = (
-  where-has (bytes_eq a (codes "run")) _ (of-one-has (λ seed. RunScript b (Planned (ByScores seed))) (λ n. tt) (number_word 0 18446744073709551615 c)),
-  where-has (bytes_eq a (codes "gen")) _ (of-both-has RunGenerated (λ m n. tt) (number_word 0 4294967295 b) (number_word 1 2000 c)),
-)
-of-three (a ∷ b ∷ c ∷ d ∷ rest) = (tt, tt)
+abbrev AllFormsHave : List WordForm → Type 0
+AllFormsHave [] = Unit {0}
+AllFormsHave (form ∷ rest) = AllHave form.arguments × AllFormsHave rest
 
-of-four : (words : List (List ℕ)) → HasCount (feed_form words) × HasCount (cert_form words)
-of-four [] = (tt, tt)
-of-four (a ∷ []) = (tt, tt)
-of-four (a ∷ b ∷ []) = (tt, tt)
-of-four (a ∷ b ∷ c ∷ []) = (tt, tt)
-of-four (a ∷ b ∷ c ∷ d ∷ []) = (
-  where-has (bytes_eq a (codes "feed")) _ (of-one-has (λ count. Feed (record { left = b; right = c; count = count })) (λ n. tt) (number_word 0 1000000 d)),
-  where-has (bytes_eq a (codes "cert")) _ (cert-has b c (number_word 0 1000000 d) (number-most 0 1000000 d)),
-)
-of-four (a ∷ b ∷ c ∷ d ∷ e ∷ rest) = (tt, tt)
-
-of-five : (words : List (List ℕ)) → HasCount (top_form words)
-of-five [] = tt
-of-five (a ∷ []) = tt
-of-five (a ∷ b ∷ []) = tt
-of-five (a ∷ b ∷ c ∷ []) = tt
-of-five (a ∷ b ∷ c ∷ d ∷ []) = tt
-of-five (a ∷ b ∷ c ∷ d ∷ e ∷ []) =
-    where-has (bytes_eq a (codes "top")) _ (of-both-has (λ max count. Top (record { file = b; column = c; max = max; count = count })) (λ m n. tt) (number_word 1 4294967295 d) (number_word 0 1000000 e))
-of-five (a ∷ b ∷ c ∷ d ∷ e ∷ f ∷ rest) = tt
+first-form-has : (some : List WordForm) → AllFormsHave some → (words : List (List ℕ)) → HasCount (first_form some words)
+first-form-has [] all words = tt
+first-form-has (form ∷ rest) all words = first-has (form_by form words) (first_form rest words) (by-has form all.0 words) (first-form-has rest all.1 words)
 
 -- the first form that words are of
 form-has : (words : List (List ℕ)) → HasCount (form_of words)
 form-has words =
-    let two = of-two words in
-    let three = of-three words in
-    let four = of-four words in
-    first-has (top_form words) _ (of-five words)
-    (first-has (plain_form words) _ two.0
-    (first-has (run_form words) _ three.0
-    (first-has (gen_form words) _ three.1
-    (first-has (ta_form words) _ two.1
-    (first-has (feed_form words) _ four.0
-    (first-has (cert_form words) _ four.1
-    (first-has (check_form words) _ two.2
-    (first-has (view_form words) None two.3 tt))))))))
+    first-form-has forms
+    (λ file column max below count most. tt, (λ script seed below. tt, (λ script. tt, (λ number below rows most. tt, (λ script. tt, (λ left right count most. tt, (λ left right count most. most, (λ file. tt, (λ script. tt, tt)))))))))
+    words
 
 pub cert-count : (words : List (List ℕ)) (form : Form) → form_of words ≡ Some form → HasCertCount form
 cert-count words form e = subst HasCount e (form-has words)

@@ -14,7 +14,7 @@ use Rattle.rs_statement.specs.declared.fault.Fault.TheVariants as fault
 use Rattle.rs_statement.specs.declared.fault.SessionFault.TheVariants as session
 use Rattle.rs_statement.specs.declared.evaluating.Evaluating.TheVariants.{Plainly, Planned}
 use Rattle.rs_statement.specs.declared.sampling.Sampling.TheVariants.{ByScores}
-use Rattle.rs_run.specs.Words.{Form, RunGenerated, RunScript, Top, form_of, top_form}
+use Rattle.rs_run.specs.Words.{Form, RunGenerated, RunScript, Top, form_of}
 use Rattle.rs_statement.specs.declared.script_fault.ScriptFault.TheVariants as script
 use Rattle.rs_statement.specs.Faults.{only}
 use Rattle.rs_run.specs.Plain.{source_of, without_mark}
@@ -24,7 +24,7 @@ use Rattle.rs_outside.specs.Files.{Finds, found_in}
 use Rattle.rs_statement.specs.Steps.{Run}
 use Rattle.rs_run.specs.Running.{IsRun, IsRunOf}
 use Rattle.rs_run.specs.declared.fault.RunFault.TheVariants.{Statement, Usage}
-use Rattle.rs_run.specs.declared.status.Status.TheVariants as status
+use Rattle.rs_events.specs.declared.status.Status.TheVariants as status
 use Rattle.rs_run.specs.Faults.{run_fault_line, status_of}
 
 hotels : List ℕ
@@ -183,57 +183,57 @@ no_words : IsRun (found_in (λ name. None)) unasked [] (record { events = []; fa
 no_words = refl
 
 -- a word too many
-too_many_words : top_form (codes "top" ∷ codes "f" ∷ codes "v" ∷ codes "9" ∷ codes "3" ∷ codes "3" ∷ []) ≡ None
+too_many_words : form_of (codes "top" ∷ codes "f" ∷ codes "v" ∷ codes "9" ∷ codes "3" ∷ codes "3" ∷ []) ≡ None
 unfolding digits
 too_many_words = refl
 
 -- another first word
-other_word : top_form (codes "topp" ∷ codes "f" ∷ codes "v" ∷ codes "9" ∷ codes "3" ∷ []) ≡ None
+other_word : form_of (codes "topp" ∷ codes "f" ∷ codes "v" ∷ codes "9" ∷ codes "3" ∷ []) ≡ None
 unfolding digits
 other_word = refl
 
 -- the greatest numbers
-greatest_numbers : top_form (words (codes "4294967295") (codes "1000000")) ≡ Some (Top (record { file = codes "h.csv"; column = codes "price"; max = 4294967295; count = 1000000 }))
+greatest_numbers : form_of (words (codes "4294967295") (codes "1000000")) ≡ Some (Top (record { file = codes "h.csv"; column = codes "price"; max = 4294967295; count = 1000000 }))
 unfolding words digits
 greatest_numbers = refl
 
 -- the least numbers
-least_numbers : top_form (words (codes "1") (codes "0")) ≡ Some (Top (record { file = codes "h.csv"; column = codes "price"; max = 1; count = 0 }))
+least_numbers : form_of (words (codes "1") (codes "0")) ≡ Some (Top (record { file = codes "h.csv"; column = codes "price"; max = 1; count = 0 }))
 unfolding words digits
 least_numbers = refl
 
 -- 20 digits may begin with zeros
-leading_zeros : top_form (words (codes "00000000000000000007") (codes "007")) ≡ Some (Top (record { file = codes "h.csv"; column = codes "price"; max = 7; count = 7 }))
+leading_zeros : form_of (words (codes "00000000000000000007") (codes "007")) ≡ Some (Top (record { file = codes "h.csv"; column = codes "price"; max = 7; count = 7 }))
 unfolding words digits
 leading_zeros = refl
 
 -- 21 digits are no number
-too_many_digits : top_form (words (codes "000000000000000000007") (codes "1")) ≡ None
+too_many_digits : form_of (words (codes "000000000000000000007") (codes "1")) ≡ None
 unfolding words digits
 too_many_digits = refl
 
 -- MAX may not be 0
-max_of_zero : top_form (words (codes "0") (codes "1")) ≡ None
+max_of_zero : form_of (words (codes "0") (codes "1")) ≡ None
 unfolding words digits
 max_of_zero = refl
 
 -- MAX is too great
-max_too_great : top_form (words (codes "4294967296") (codes "1")) ≡ None
+max_too_great : form_of (words (codes "4294967296") (codes "1")) ≡ None
 unfolding words digits
 max_too_great = refl
 
 -- K is too great
-count_too_great : top_form (words (codes "1") (codes "1000001")) ≡ None
+count_too_great : form_of (words (codes "1") (codes "1000001")) ≡ None
 unfolding words digits
 count_too_great = refl
 
 -- a number has no sign
-sign : top_form (words (codes "1") (codes "+1")) ≡ None
+sign : form_of (words (codes "1") (codes "+1")) ≡ None
 unfolding words digits
 sign = refl
 
 -- a number has a digit
-no_digit : top_form (words (codes "") (codes "1")) ≡ None
+no_digit : form_of (words (codes "") (codes "1")) ≡ None
 unfolding words digits
 no_digit = refl
 

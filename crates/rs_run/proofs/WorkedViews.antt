@@ -15,7 +15,7 @@ use Rattle.rs_statement.specs.declared.fault.Fault.TheVariants.{Session}
 use Rattle.rs_statement.specs.declared.fault.SessionFault.TheVariants.{NameTaken, Unknown}
 use Rattle.rs_run.specs.declared.fault.RunFault.TheVariants.{NotEligible}
 use Rattle.rs_run.specs.declared.fault.ScriptWord.TheVariants.{View}
-use Rattle.rs_run.specs.declared.status.Status.TheVariants as status
+use Rattle.rs_events.specs.declared.status.Status.TheVariants as status
 use Rattle.rs_run.specs.Faults.{run_fault_line, status_of}
 use Rattle.rs_run.specs.Reached.{AreNotClosed, most_written, without_views}
 use Rattle.rs_run.specs.Viewing.{DoesByViews, HeldView, Kept, close_outcome, room_for_view, view_named}

@@ -11,8 +11,9 @@ use Rattle.rs_run.specs.declared.fault.RunFault.{RunFault}
 use Rattle.rs_run.specs.declared.fault.RunFault.TheVariants.{CertForm, CertTooLong, NotEligible, Order, Statement, Usage}
 use Rattle.rs_run.specs.declared.fault.ScriptWord.{ScriptWord}
 use Rattle.rs_run.specs.declared.fault.ScriptWord.TheVariants.{Ta, View}
-use Rattle.rs_run.specs.declared.status.Status.{Status}
-use Rattle.rs_run.specs.declared.status.Status.TheVariants as status
+use Rattle.rs_run.specs.Words.{usage_line}
+use Rattle.rs_events.specs.declared.status.Status.{Status}
+use Rattle.rs_events.specs.declared.status.Status.TheVariants as status
 
 -- the run of words
 abbrev pub WordsRun : Type 0
@@ -51,7 +52,7 @@ word_name View = codes "view"
 
 -- the line of a fault
 abbrev pub run_fault_line : RunFault → List ℕ
-run_fault_line Usage = codes "usage: ranksql top FILE COLUMN MAX K, run SCRIPT SEED, plain SCRIPT, gen NUMBER ROWS, ta SCRIPT, feed LEFT RIGHT K, cert LEFT RIGHT K, check FILE, view SCRIPT\n"
+run_fault_line Usage = usage_line
 run_fault_line (NotEligible word statement) = codes "script: " ++ word_name word ++ codes " NotEligible statement " ++ decimal statement ++ 10 ∷ []
 run_fault_line (Order name row before got) =
     codes "table: " ++ name ++ codes ": OutOfOrder row " ++ decimal row ++ codes " before " ++ decimal before ++ codes " got " ++ decimal got ++ 10 ∷ []

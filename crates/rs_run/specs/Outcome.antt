@@ -7,8 +7,8 @@ use Rattle.rs_outside.specs.Files.{finds_in}
 use Rattle.rs_events.specs.HaltFaults.{IsFaultOf}
 use Rattle.rs_events.specs.Halts.{Did, Done, Halt}
 use Rattle.rs_run.specs.declared.fault.RunFault.{RunFault}
-use Rattle.rs_run.specs.declared.status.Status.{Status}
-use Rattle.rs_run.specs.declared.status.Status.TheVariants as statuses
+use Rattle.rs_events.specs.declared.status.Status.{Status}
+use Rattle.rs_events.specs.declared.status.Status.TheVariants as statuses
 use Rattle.rs_run.specs.Faults.{WordsRun, run_fault_line, run_faults, status_of}
 use Rattle.rs_run.specs.Running.{IsRun, OfForm}
 use Rattle.rs_run.specs.Words.{Form}

@@ -16,12 +16,10 @@ use Rattle.rs_syntax.specs.Syntax as syntax
 use Rattle.rs_syntax.specs.declared.name.Name.{Name}
 use Rattle.rs_events.specs.Events.{puts}
 use Rattle.rs_outside.specs.Files.{Finds}
-use Rattle.rs_events.specs.Sequence.{Step}
 use Rattle.rs_statement.specs.declared.evaluating.Evaluating.TheVariants.{Plainly}
 use Rattle.rs_statement.specs.Session.{State, nothing}
 use Rattle.rs_statement.specs.Statements.{query_step, select_step}
-use Rattle.rs_run.specs.declared.fault.RunFault.{RunFault}
-use Rattle.rs_run.specs.Later.{LeadsTo}
+use Rattle.rs_run.specs.Later.{Leads, LeadsTo}
 use Rattle.rs_run.specs.Numbered.{DoesNext}
 use Rattle.rs_run.specs.Viewing.{DoesByViews, HeldView, Kept, ViewState, fetch_step}
 
@@ -31,9 +29,7 @@ anything name there = Unit {0}
 
 -- these statements, each of which ends without a fault, lead from one state to another
 abbrev pub LeadsByViews : Finds → Answering → ViewState → List Command → ViewState → Type 0
-LeadsByViews finds answer state [] later = later ≡ state
-LeadsByViews finds answer state (command ∷ rest) later =
-    (next : ViewState) × (step : Step RunFault ViewState) × DoesNext (DoesByViews finds answer) state command step × (step.outcome ≡ Ok next) × LeadsByViews finds answer next rest later
+LeadsByViews finds answer state commands later = Leads (DoesNext (DoesByViews finds answer)) state commands later
 
 -- each held view has the first rows of its query's answer over the tables as they are
 abbrev pub AllHaveTheirAnswers : Answering → Kept → Type 0

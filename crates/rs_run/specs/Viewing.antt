@@ -1,7 +1,6 @@
 -- The word `view`: a script whose queries are kept as views, which grow as rows join their tables.
-use Rattle.std.specs.Prelude.{ℕ, ℤ, ◌≡◌, not, List, [], ◌∷◌, ◌++◌, map, take, Result, Ok, Err, if◌then◌else◌}
-use Rattle.std.specs.List.{filter, flat_map}
-use Rattle.std.specs.Str.{bytes_eq}
+use Rattle.std.specs.Prelude.{ℕ, ℤ, ◌≡◌, List, [], ◌∷◌, ◌++◌, map, take, Result, Ok, Err, if◌then◌else◌}
+use Rattle.std.specs.List.{flat_map}
 use Rattle.rs_value.specs.Results.{◌>>=◌}
 use Rattle.rs_lex.specs.declared.token.Span.{Span}
 use Rattle.rs_rank.specs.declared.answer.Answer.{Answer}
@@ -10,7 +9,7 @@ use Rattle.rs_syntax.specs.Syntax as syntax
 use Rattle.rs_syntax.specs.declared.name.Name.{Name}
 use Rattle.rs_expr.specs.InOrder.{Inquiry}
 use Rattle.rs_expr.specs.Scoring.{Answering}
-use Rattle.rs_catalog.specs.Catalog.{CatalogDef, empty, room_in}
+use Rattle.rs_catalog.specs.Catalog.{CatalogDef, empty}
 use Rattle.rs_bind.specs.Queries.{bound_query, count_of}
 use Rattle.rs_query.specs.Blocks.{block_in}
 use Rattle.rs_query.specs.Questions.{Question, asking}
@@ -24,10 +23,8 @@ use Rattle.rs_outside.specs.Files.{Finds}
 use Rattle.rs_events.specs.Sequence.{Step, inquiry_step, lines_step, still, then_step}
 use Rattle.rs_statement.specs.declared.evaluating.Evaluating.TheVariants.{Plainly}
 use Rattle.rs_statement.specs.declared.fault.Fault.{Fault}
-use Rattle.rs_statement.specs.declared.fault.Fault.TheVariants.{Session}
-use Rattle.rs_statement.specs.declared.fault.SessionFault.TheVariants.{Unknown}
 use Rattle.rs_statement.specs.Lines.{rank_lines}
-use Rattle.rs_statement.specs.Session.{most_cursors, or_session_fault}
+use Rattle.rs_statement.specs.Named.{named_in, room_for, without}
 use Rattle.rs_statement.specs.Statements.{Does, or_bind_fault, query_fault, refused_or}
 use Rattle.rs_statement.specs.Steps as statement
 use Rattle.rs_run.specs.declared.fault.RunFault.{RunFault}
@@ -49,12 +46,11 @@ pub record Kept : Type 0 where
 -- whether a view of this name can be held: not where one of the name is, and not where there are as many as may be. There may be as many as there may be
 -- cursors under the other words
 abbrev pub room_for_view : List ℕ → List HeldView → Result (Unit {0}) Fault
-room_for_view name views = or_session_fault name (room_in name most_cursors (map (λ (held : HeldView). held.0) views))
+room_for_view name views = room_for name (map (λ (held : HeldView). held.0) views)
 
 -- the held view of this name; where there is none, the run ends
 abbrev pub view_named : List ℕ → List HeldView → Result ViewDef Fault
-view_named name [] = Err (Session Unknown name)
-view_named name (held ∷ rest) = if bytes_eq held.0 name then Ok held.1 else view_named name rest
+view_named name views = named_in (λ (held : HeldView). held.0) (λ (held : HeldView). held.1) name views
 
 -- a new view is the last one
 abbrev pub with_view : List ℕ → ViewDef → Kept → Kept
@@ -126,7 +122,7 @@ fetch_step kept count name = refused_or (λ rows. lines_step (rank_lines 1 rows)
 
 -- CLOSE gives the name free; all other views stay in their order
 abbrev pub without_view : List ℕ → Kept → Kept
-without_view name kept = record kept { views = filter (λ (held : HeldView). not (bytes_eq held.0 name)) kept.views }
+without_view name kept = record kept { views = without (λ (held : HeldView). held.0) name kept.views }
 
 abbrev pub close_outcome : Kept → Name → Result Kept Fault
 close_outcome kept name = view_named name.text kept.views >>= λ view. Ok (without_view name.text kept)

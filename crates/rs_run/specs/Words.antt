@@ -1,10 +1,11 @@
 -- The words of the command line.
-use Rattle.std.specs.Prelude.{ℕ, nat_le, List, [], ◌∷◌, length, Option, Some, None, option_map, if◌then◌else◌, codes}
+use Rattle.std.specs.Prelude.{ℕ, nat_le, List, [], ◌∷◌, ◌++◌, length, Option, Some, None, if◌then◌else◌, codes}
 use Rattle.std.specs.Str.{bytes_eq}
 use Rattle.rs_value.specs.Number.{decimal_value}
 use Rattle.rs_statement.specs.declared.evaluating.Evaluating.{Evaluating}
 use Rattle.rs_statement.specs.declared.evaluating.Evaluating.TheVariants.{Plainly, Planned}
 use Rattle.rs_words.specs.TwoFeeds.{FeedWords}
+use Rattle.rs_statement.specs.declared.sampling.Sampling.{Sampling}
 use Rattle.rs_statement.specs.declared.sampling.Sampling.TheVariants.{ByScores}
 
 -- what `top FILE COLUMN MAX K` asks for
@@ -36,67 +37,91 @@ pub data Form : Type 0 where
   Check : List ℕ → Form
   Views : List ℕ → Form
 
--- what is made of two numbers, where there are both
-abbrev pub of_both : {A : Type 0} → (ℕ → ℕ → A) → Option ℕ → Option ℕ → Option A
-of_both make (Some first) (Some second) = Some (make first second)
-of_both make (Some first) None = None
-of_both make None second = None
+-- the arguments of a word, one after another, and what is made of them. A name may be any text, a number is one from `least` to `most`; each argument begins
+-- with its name in the usage line
+pub data Arguments : Type 0 where
+  Make : Form → Arguments
+  Name : List ℕ → (List ℕ → Arguments) → Arguments
+  Number : List ℕ → (least most : ℕ) → (ℕ → Arguments) → Arguments
+
+-- a word of the command line with its arguments
+pub record WordForm : Type 0 where
+  pub word : List ℕ
+  pub arguments : Arguments
 
 -- the words `top FILE COLUMN MAX K`, MAX from 1 to 4,294,967,295 and K from 0 to 1,000,000
-abbrev pub top_form : List (List ℕ) → Option Form
-top_form (word ∷ file ∷ column ∷ max ∷ count ∷ []) =
-    if bytes_eq word (codes "top")
-    then of_both (λ max count. Top (record { file = file; column = column; max = max; count = count })) (number_word 1 4294967295 max) (number_word 0 1000000 count)
-    else None
-top_form _ = None
+abbrev pub top_words : WordForm
+top_words = record {
+  word = codes "top";
+  arguments = Name (codes "FILE") (λ file. Name (codes "COLUMN") (λ column. Number (codes "MAX") 1 4294967295 (λ max. Number (codes "K") 0 1000000 (λ count.
+      Make (Top (record { file = file; column = column; max = max; count = count }))))));
+}
+
+-- the words `run SCRIPT SEED`, SEED from 0 to 18,446,744,073,709,551,615: plans are chosen by samples that the seed draws
+abbrev pub run_words : (ℕ → Sampling) → WordForm
+run_words sampling = record {
+  word = codes "run";
+  arguments = Name (codes "SCRIPT") (λ script. Number (codes "SEED") 0 18446744073709551615 (λ seed. Make (RunScript script (Planned (sampling seed)))));
+}
 
 -- the words `plain SCRIPT`
-abbrev pub plain_form : List (List ℕ) → Option Form
-plain_form (word ∷ script ∷ []) = if bytes_eq word (codes "plain") then Some (RunScript script Plainly) else None
-plain_form _ = None
-
--- the words `run SCRIPT SEED`, SEED from 0 to 18,446,744,073,709,551,615
-abbrev pub run_form : List (List ℕ) → Option Form
-run_form (word ∷ script ∷ seed ∷ []) =
-    if bytes_eq word (codes "run") then option_map (λ seed. RunScript script (Planned (ByScores seed))) (number_word 0 18446744073709551615 seed) else None
-run_form _ = None
+abbrev pub plain_words : WordForm
+plain_words = record { word = codes "plain"; arguments = Name (codes "SCRIPT") (λ script. Make (RunScript script Plainly)) }
 
 -- the words `gen NUMBER ROWS`, NUMBER from 0 to 4,294,967,295 and ROWS from 1 to 2,000
-abbrev pub gen_form : List (List ℕ) → Option Form
-gen_form (word ∷ number ∷ rows ∷ []) =
-    if bytes_eq word (codes "gen") then of_both RunGenerated (number_word 0 4294967295 number) (number_word 1 2000 rows) else None
-gen_form _ = None
+abbrev pub gen_words : WordForm
+gen_words = record {
+  word = codes "gen";
+  arguments = Number (codes "NUMBER") 0 4294967295 (λ number. Number (codes "ROWS") 1 2000 (λ rows. Make (RunGenerated number rows)));
+}
 
 -- the words `ta SCRIPT`
-abbrev pub ta_form : List (List ℕ) → Option Form
-ta_form (word ∷ script ∷ []) = if bytes_eq word (codes "ta") then Some (Threshold script) else None
-ta_form _ = None
+abbrev pub ta_words : WordForm
+ta_words = record { word = codes "ta"; arguments = Name (codes "SCRIPT") (λ script. Make (Threshold script)) }
 
--- the words `feed LEFT RIGHT K`, K from 0 to 1,000,000
-abbrev pub feed_form : List (List ℕ) → Option Form
-feed_form (word ∷ left ∷ right ∷ count ∷ []) =
-    if bytes_eq word (codes "feed") then option_map (λ count. Feed (record { left = left; right = right; count = count })) (number_word 0 1000000 count) else None
-feed_form _ = None
+-- two feeds and K from 0 to 1,000,000, of which this is made
+abbrev pub two_feeds : (FeedWords → Form) → Arguments
+two_feeds make = Name (codes "LEFT") (λ left. Name (codes "RIGHT") (λ right. Number (codes "K") 0 1000000 (λ count.
+    Make (make (record { left = left; right = right; count = count })))))
 
--- the words `cert LEFT RIGHT K`, K from 0 to 1,000,000
-abbrev pub cert_form : List (List ℕ) → Option Form
-cert_form (word ∷ left ∷ right ∷ count ∷ []) =
-    if bytes_eq word (codes "cert") then option_map (λ count. Certify (record { left = left; right = right; count = count })) (number_word 0 1000000 count) else None
-cert_form _ = None
+-- the words `feed LEFT RIGHT K`
+abbrev pub feed_words : WordForm
+feed_words = record { word = codes "feed"; arguments = two_feeds Feed }
+
+-- the words `cert LEFT RIGHT K`
+abbrev pub cert_words : WordForm
+cert_words = record { word = codes "cert"; arguments = two_feeds Certify }
 
 -- the words `check FILE`
-abbrev pub check_form : List (List ℕ) → Option Form
-check_form (word ∷ file ∷ []) = if bytes_eq word (codes "check") then Some (Check file) else None
-check_form _ = None
+abbrev pub check_words : WordForm
+check_words = record { word = codes "check"; arguments = Name (codes "FILE") (λ file. Make (Check file)) }
 
 -- the words `view SCRIPT`
-abbrev pub view_form : List (List ℕ) → Option Form
-view_form (word ∷ script ∷ []) = if bytes_eq word (codes "view") then Some (Views script) else None
-view_form _ = None
+abbrev pub view_words : WordForm
+view_words = record { word = codes "view"; arguments = Name (codes "SCRIPT") (λ script. Make (Views script)) }
 
--- the forms, in the order in which they are tried
-abbrev pub forms : List (List (List ℕ) → Option Form)
-forms = top_form ∷ plain_form ∷ run_form ∷ gen_form ∷ ta_form ∷ feed_form ∷ cert_form ∷ check_form ∷ view_form ∷ []
+-- the words of the command line, in the order of the usage line. No two begin alike
+abbrev pub forms : List WordForm
+forms = top_words ∷ run_words ByScores ∷ plain_words ∷ gen_words ∷ ta_words ∷ feed_words ∷ cert_words ∷ check_words ∷ view_words ∷ []
+
+-- what is made of a number, where there is one
+abbrev pub of_number : (ℕ → Option Form) → Option ℕ → Option Form
+of_number make (Some number) = make number
+of_number make None = None
+
+-- what is made of words, where they are these arguments
+abbrev pub made_of : Arguments → List (List ℕ) → Option Form
+made_of (Make form) [] = Some form
+made_of (Make form) (word ∷ rest) = None
+made_of (Name shown next) [] = None
+made_of (Name shown next) (word ∷ rest) = made_of (next word) rest
+made_of (Number shown least most next) [] = None
+made_of (Number shown least most next) (word ∷ rest) = of_number (λ number. made_of (next number) rest) (number_word least most word)
+
+-- what words ask for, where they are this word and its arguments
+abbrev pub form_by : WordForm → List (List ℕ) → Option Form
+form_by form [] = None
+form_by form (word ∷ rest) = if bytes_eq word form.word then made_of form.arguments rest else None
 
 -- the first of two, where it is there
 abbrev pub first_some : {A : Type 0} → Option A → Option A → Option A
@@ -104,10 +129,26 @@ first_some (Some first) other = Some first
 first_some None other = other
 
 -- the first of these forms that words are of
-abbrev pub first_form : List (List (List ℕ) → Option Form) → List (List ℕ) → Option Form
+abbrev pub first_form : List WordForm → List (List ℕ) → Option Form
 first_form [] words = None
-first_form (form ∷ rest) words = first_some (form words) (first_form rest words)
+first_form (form ∷ rest) words = first_some (form_by form words) (first_form rest words)
 
 -- the form of words, if they are of one
 abbrev pub form_of : List (List ℕ) → Option Form
 form_of words = first_form forms words
+
+-- the names of arguments, each behind a blank
+abbrev pub shown_arguments : Arguments → List ℕ
+shown_arguments (Make form) = []
+shown_arguments (Name shown next) = 32 ∷ shown ++ shown_arguments (next [])
+shown_arguments (Number shown least most next) = 32 ∷ shown ++ shown_arguments (next 0)
+
+-- words with their arguments, with commas between them
+abbrev pub shown_forms : List WordForm → List ℕ
+shown_forms [] = []
+shown_forms (form ∷ []) = form.word ++ shown_arguments form.arguments
+shown_forms (form ∷ rest) = form.word ++ shown_arguments form.arguments ++ codes ", " ++ shown_forms rest
+
+-- the line that shows all words
+abbrev pub usage_line : List ℕ
+usage_line = codes "usage: ranksql " ++ shown_forms forms ++ 10 ∷ []

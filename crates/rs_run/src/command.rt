@@ -16,11 +16,11 @@ use crate::generated::run_generated;
 use crate::plain::run_script;
 use crate::readers::Readers;
 use crate::report::report;
-use crate::status::Status;
 use crate::threshold::run_by_scan;
 use crate::top::top;
 use crate::viewing::run_with_views;
 use crate::words::{CommandLine, command_line_of};
+use rs_events::{Host, Objects, Status};
 use rs_expr::Scorer;
 use rs_outside::{Files, Sink};
 use rs_statement::Evaluating;
@@ -87,7 +87,8 @@ pub fn run<F: Files, S: Scorer, O: Sink, E: Sink>(
         (environment (F.state files.old) (S.state scorer.old) (O.state out.old) (E.state err.old))
         (environment (F.state files.new) (S.state scorer.new) (O.state out.new) (E.state err.new)) }
 {
-    match answer(alloc, words, files, scorer, out) {
+    let mut host = Objects { files, scorer, out };
+    match answer(alloc, words, &mut host) {
         Ok(()) => Status::Done,
         Err(fault) => report(alloc, &fault, err),
     }
@@ -136,7 +137,8 @@ pub fn run_file<T: TableReader, F: Files, S: Scorer, O: Sink, E: Sink>(
         (environment (F.state files.old) (S.state scorer.old) (O.state out.old) (E.state err.old))
         (environment (F.state files.new) (S.state scorer.new) (O.state out.new) (E.state err.new)) }
 {
-    match run_script(alloc, evaluating, script, readers, files, scorer, out) {
+    let mut host = Objects { files, scorer, out };
+    match run_script(alloc, evaluating, script, readers, &mut host) {
         Ok(()) => Status::Done,
         Err(fault) => {
             let fault = RunFault::Statement(fault);
@@ -146,71 +148,52 @@ pub fn run_file<T: TableReader, F: Files, S: Scorer, O: Sink, E: Sink>(
 }
 
 /// Does what the words say, up to the first fault.
-fn answer<F: Files, S: Scorer, O: Sink>(
+fn answer<'f, 's, 'o, F: Files, S: Scorer, O: Sink>(
     alloc: Global,
     words: &[Text],
-    files: &mut F,
-    scorer: &mut S,
-    out: &mut O,
+    host: &mut Objects<'f, 's, 'o, F, S, O>,
 ) -> Result<(), RunFault>
-    ensures does { (beside : Environment) → Runs run_faults (IsRun (finds_in (F.state files.old).contents) (S.state scorer.old).answer words.now) result
-        (record beside { files = F.state files.old; scorer = S.state scorer.old; out = O.state out.old })
-        (record beside { files = F.state files.new; scorer = S.state scorer.new; out = O.state out.new }) }
-    ensures unfetched { (number rows : ℕ) → form_of words.now ≡ Some (RunGenerated number rows) → F.state files.new ≡ F.state files.old }
+    ensures does { let state = ⟦<Objects<'f, 's, 'o, F, S, O> as Host>⟧.state in
+        Runs run_faults (IsRun (finds_in (state host.old).files.contents) (state host.old).scorer.answer words.now) result (state host.old) (state host.new) }
+    ensures unfetched { let state = ⟦<Objects<'f, 's, 'o, F, S, O> as Host>⟧.state in
+        (number rows : ℕ) → form_of words.now ≡ Some (RunGenerated number rows) → (state host.new).files ≡ (state host.old).files }
 {
     match command_line_of(words) {
-        Some(command) => obey(alloc, command, files, scorer, out),
+        Some(command) => obey(alloc, command, host),
         None => Err(RunFault::Usage),
     }
 }
 
 /// Does what a command asks for, up to the first fault.
-fn obey<F: Files, S: Scorer, O: Sink>(
+fn obey<'f, 's, 'o, F: Files, S: Scorer, O: Sink>(
     alloc: Global,
     command: CommandLine<'_>,
-    files: &mut F,
-    scorer: &mut S,
-    out: &mut O,
+    host: &mut Objects<'f, 's, 'o, F, S, O>,
 ) -> Result<(), RunFault>
     requires { HasCertCount (form_of_command_line command) }
-    ensures does { (beside : Environment) → Runs run_faults
-        (IsFormRun (finds_in (F.state files.old).contents) (S.state scorer.old).answer (form_of_command_line command.entry)) result
-        (record beside { files = F.state files.old; scorer = S.state scorer.old; out = O.state out.old })
-        (record beside { files = F.state files.new; scorer = S.state scorer.new; out = O.state out.new }) }
-    ensures unfetched { (number rows : ℕ) → form_of_command_line command.entry ≡ RunGenerated number rows → F.state files.new ≡ F.state files.old }
+    ensures does { let state = ⟦<Objects<'f, 's, 'o, F, S, O> as Host>⟧.state in
+        Runs run_faults (IsFormRun (finds_in (state host.old).files.contents) (state host.old).scorer.answer (form_of_command_line command.entry)) result
+        (state host.old) (state host.new) }
+    ensures unfetched { let state = ⟦<Objects<'f, 's, 'o, F, S, O> as Host>⟧.state in
+        (number rows : ℕ) → form_of_command_line command.entry ≡ RunGenerated number rows → (state host.new).files ≡ (state host.old).files }
 {
     match command {
         CommandLine::Top(words) => {
-            top(
-                alloc,
-                words.file,
-                words.column,
-                words.max,
-                words.count,
-                files,
-                out,
-            )?;
+            top(alloc, words, host)?;
             Ok(())
         }
         CommandLine::RunScript(script, evaluating) => {
-            let readers = &mut Readers::new();
-            run_script(alloc, evaluating, script, readers, files, scorer, out)?;
+            run_script(alloc, evaluating, script, &mut Readers::new(), host)?;
             Ok(())
         }
         CommandLine::RunGenerated(number, rows) => {
-            run_generated(alloc, files.hash_keys(), number, rows, scorer, out)?;
+            run_generated(alloc, number, rows, host)?;
             Ok(())
         }
-        CommandLine::Threshold(script) => {
-            run_by_scan(alloc, script, &mut Readers::new(), files, scorer, out)
-        }
-        CommandLine::Feed(words) => feed(alloc, words.left, words.right, words.count, files, out),
-        CommandLine::Certify(words) => {
-            cert(alloc, words.left, words.right, words.count, files, out)
-        }
-        CommandLine::Check(file) => check(alloc, file, files, out),
-        CommandLine::Views(script) => {
-            run_with_views(alloc, script, &mut Readers::new(), files, scorer, out)
-        }
+        CommandLine::Threshold(script) => run_by_scan(alloc, script, &mut Readers::new(), host),
+        CommandLine::Feed(words) => feed(alloc, words, host),
+        CommandLine::Certify(words) => cert(alloc, words, host),
+        CommandLine::Check(file) => check(alloc, file, host),
+        CommandLine::Views(script) => run_with_views(alloc, script, &mut Readers::new(), host),
     }
 }

@@ -2,8 +2,7 @@ ghost use Rattle.std.specs.Prelude.{◌≡◌, IfOk, Some};
 ghost use Rattle.std.specs.String.{string_bytes};
 ghost use Rattle.rs_run.specs.Faults.{run_fault_line, status_of, word_name};
 
-use crate::status::Status;
-use rs_events::HaltFault;
+use rs_events::{HaltFault, Status};
 use rs_outside::SinkFault;
 use rs_statement::Fault;
 use rs_value::{Memory, Text};

@@ -1,15 +1,18 @@
 //! The word `feed`: the first pairs of two ranked feeds.
 
 ghost use Rattle.std.specs.Prelude.{◌≡◌, ◌⊎◌, IfOk};
-ghost use Rattle.rs_events.specs.Environment.{Environment};
 ghost use Rattle.rs_outside.specs.Files.{finds_in};
 ghost use Rattle.rs_events.specs.Running.{Runs};
 ghost use Rattle.rs_run.specs.FeedTold as told;
 ghost use Rattle.rs_run.specs.Faults.{run_faults};
+ghost use Rattle.rs_run.specs.Parts.CommandLine.{feed_words_of};
 ghost use Rattle.rs_run.specs.Running.{IsFormRun};
 ghost use Rattle.rs_run.specs.Words.{Feed};
 
 use crate::fault::RunFault;
+use crate::words::FeedCommand;
+use rs_events::{Host, Objects};
+use rs_expr::Scorer;
 use rs_outside::{Files, Sink};
 use rs_statement::{Fault, only_row};
 use rs_table_feed::RangeFault;
@@ -20,20 +23,18 @@ use std::alloc::Global;
 /// The greatest score of a row of a feed.
 const MOST_SCORE: u32 = 4_294_967_295;
 
-/// Joins two ranked feeds, and puts their first `count` pairs and how often both were drawn.
-pub fn feed<F: Files, O: Sink>(
+/// Joins two ranked feeds, and puts their first `words.count` pairs and how often both were drawn.
+pub fn feed<'f, 's, 'o, F: Files, S: Scorer, O: Sink>(
     alloc: Global,
-    left: &Text,
-    right: &Text,
-    count: u32,
-    files: &mut F,
-    out: &mut O,
+    words: FeedCommand<'_>,
+    host: &mut Objects<'f, 's, 'o, F, S, O>,
 ) -> Result<(), RunFault>
-    ensures { (beside : Environment) → Runs run_faults
-        (IsFormRun (finds_in (F.state files.old).contents) beside.scorer.answer (Feed (record { left = left.now; right = right.now; count = count }))) result
-        (record beside { files = F.state files.old; out = O.state out.old }) (record beside { files = F.state files.new; out = O.state out.new }) }
+    ensures { let state = ⟦<Objects<'f, 's, 'o, F, S, O> as Host>⟧.state in
+        Runs run_faults (IsFormRun (finds_in (state host.old).files.contents) (state host.old).scorer.answer (Feed (feed_words_of words.entry))) result
+        (state host.old) (state host.new) }
 {
-    match feed_word(alloc, left, right, count, files, out) {
+    let FeedCommand { left, right, count } = words;
+    match feed_word(alloc, left, right, count, &mut *host.files, &mut *host.out) {
         Ok(()) => Ok(()),
         Err(why) => Err(word_fault(alloc, left, right, why)),
     }

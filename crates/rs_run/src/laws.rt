@@ -1,7 +1,7 @@
 //! What the definitions say: laws that hold of all words and files. The functions compute nothing; they are called for
 //! their contracts.
 
-ghost use Rattle.std.specs.Prelude.{◌≡◌, ℕ, List, Option, None, Some, Ok};
+ghost use Rattle.std.specs.Prelude.{◌≡◌, ◌+◌, ℕ, List, Option, None, Some, Ok, length};
 ghost use Rattle.rs_value.specs.declared.value.Value.{Value};
 ghost use Rattle.rs_outside.specs.Files.{Contents, finds_in, found_in};
 ghost use Rattle.rs_rank.specs.declared.scored_row.ScoredRow.{ScoredRow};
@@ -10,7 +10,7 @@ ghost use Rattle.rs_expr.specs.Scoring.{Answering};
 ghost use Rattle.rs_table.specs.Relation.{Relation};
 ghost use Rattle.rs_syntax.specs.Syntax.{Command};
 ghost use Rattle.rs_syntax.specs.Written.{AreWritten};
-ghost use Rattle.rs_catalog.specs.Catalog.{RankIndex, with_index, with_predicate, with_table};
+ghost use Rattle.rs_catalog.specs.Catalog.{CatalogDef, RankIndex, empty, with_index, with_predicate, with_table};
 ghost use Rattle.rs_catalog.specs.Growing.{grown, growing};
 ghost use Rattle.rs_catalog.specs.IndexesHold.{IndexesHold};
 ghost use Rattle.rs_catalog.specs.Snapshot.{sizes_in};
@@ -23,12 +23,16 @@ ghost use Rattle.rs_statement.specs.declared.evaluating.Evaluating.{Evaluating};
 ghost use Rattle.rs_statement.specs.declared.evaluating.Evaluating.TheVariants.{Plainly, Planned};
 ghost use Rattle.rs_statement.specs.declared.sampling.Sampling.{Sampling};
 ghost use Rattle.rs_statement.specs.Planned.{asks_from, next_asks};
-ghost use Rattle.rs_statement.specs.Session.{ByPlan, IsCursorOf, OpenCursor, State, fetched_from, fetched_step};
+ghost use Rattle.rs_statement.specs.Session.{ByPlan, DoesInSession, IsCursorOf, OpenCursor, State, StatementsRun, fetched_from, fetched_step, nothing};
 ghost use Rattle.rs_statement.specs.Steps.{Run};
 ghost use Rattle.rs_events.specs.Events.{puts};
 ghost use Rattle.rs_run.specs.Faults.{WordsRun};
-ghost use Rattle.rs_run.specs.Later.{LeadsTo};
+ghost use Rattle.rs_run.specs.Later.{Leads, LeadsTo};
+ghost use Rattle.rs_run.specs.Numbered.{DoesNext, Numbered, first_statement};
+ghost use Rattle.rs_run.specs.Rest.{SplitsAtStatements};
 ghost use Rattle.rs_run.specs.Running.{HasNoExplain, IsRun, IsRunOf};
+ghost use Rattle.rs_run.specs.Threshold.{DoesByScan, ScansRun};
+ghost use Rattle.rs_run.specs.Viewing.{DoesByViews, ViewState, ViewsRun, first_view_statement};
 ghost use Rattle.rs_run.specs.Words.{RunScript};
 
 use rs_enum::there_is_one_least_plan;
@@ -88,3 +92,19 @@ pub fn cursors_keep_their_rows()
 {
     plans_ask_the_same_in_larger_catalogues();
 }
+
+/// A run may begin at any statement of its script. From the catalogue, and the cursors or views, that the statements in front of it left,
+/// the statement and those behind it do what is left of the whole run; so the events of the former, and then those of the latter, are the
+/// events of all, with the ending of the latter. Each whole run is made so, or a fault of the statements in front ends it. Numbers count on.
+pub fn a_run_from_a_statement_is_the_rest()
+    ensures run { (answer : Answering) (evaluating : Evaluating)
+        → SplitsAtStatements (λ finds. DoesInSession finds answer evaluating) nothing (λ finds. StatementsRun finds answer evaluating) }
+    ensures ta { (answer : Answering)
+        → SplitsAtStatements (λ finds. DoesNext (DoesByScan finds answer)) (first_statement empty) (λ finds. ScansRun finds answer) }
+    ensures view { (answer : Answering)
+        → SplitsAtStatements (λ finds. DoesNext (DoesByViews finds answer)) first_view_statement (λ finds. ViewsRun finds answer) }
+    ensures ta_number { (contents : Contents) (answer : Answering) (front : List Command) (later : Numbered CatalogDef)
+        → Leads (DoesNext (DoesByScan (finds_in contents) answer)) (first_statement empty) front later → later.number ≡ length front + 1 }
+    ensures view_number { (contents : Contents) (answer : Answering) (front : List Command) (later : ViewState)
+        → Leads (DoesNext (DoesByViews (finds_in contents) answer)) first_view_statement front later → later.number ≡ length front + 1 }
+{}

@@ -4,6 +4,7 @@
 //! scorers and outputs.
 #![tactic(auto)]
 
+mod bound_query;
 mod certificates;
 mod command;
 mod dialect;
@@ -17,7 +18,6 @@ mod plain;
 mod readers;
 mod report;
 mod statement;
-mod status;
 mod threshold;
 mod top;
 mod view_laws;
@@ -28,11 +28,14 @@ mod words;
 pub use command::{run, run_file};
 pub use fault::{RunFault, ScriptWord};
 pub use known_script::KnownScript;
-pub use laws::{cursors_keep_their_rows, one_run, plain_and_run_agree, words_have_a_run};
+pub use laws::{
+    a_run_from_a_statement_is_the_rest, cursors_keep_their_rows, one_run, plain_and_run_agree,
+    words_have_a_run,
+};
 pub use naming::unmade_predicate;
 pub use readers::Readers;
+pub use rs_events::Status;
 pub use rs_statement::{Evaluating, Fault, Sampling, ScriptFault, SessionFault};
-pub use status::Status;
 pub use view_laws::{
     fetches_of_views_put_what_plain_puts, fetches_of_views_put_what_selects_put,
     held_views_have_their_answers,

@@ -7,15 +7,14 @@ ghost use Rattle.rs_run.specs.Plain.{or_text_fault, without_mark};
 ghost use Rattle.rs_outside.specs.Files.{finds_in};
 ghost use Rattle.rs_run.specs.Running.{IsRunOf};
 ghost use Rattle.rs_run.specs.Words.{RunScript};
-ghost use Rattle.rs_events.specs.Environment.{Environment};
 
 use crate::dialect::interpret;
 use crate::readers::Readers;
-use crate::statement::Made;
+use crate::statement::Evaluated;
 use rs_catalog::Catalog;
-use rs_expr::Scorer;
+use rs_events::Host;
 use rs_lex::MOST_BYTES;
-use rs_outside::{Files, Sink};
+use rs_outside::Files;
 use rs_statement::{Evaluating, Fault, ScriptFault, Session, fetch_file, release};
 use rs_table::TableReader;
 use rs_value::{Text, TextFault};
@@ -25,35 +24,25 @@ use std::alloc::Global;
 const BYTE_ORDER_MARK: &[u8] = b"\xEF\xBB\xBF";
 
 /// Does what a script says, statement by statement, up to the first fault. It and its tables are read by these readers.
-pub fn run_script<T: TableReader, F: Files, S: Scorer, O: Sink>(
+pub fn run_script<T: TableReader, W: Host>(
     alloc: Global,
     evaluating: Evaluating,
     name: &Text,
     readers: &mut Readers<T>,
-    files: &mut F,
-    scorer: &mut S,
-    out: &mut O,
+    host: &mut W,
 ) -> Result<(), Fault>
-    ensures { (beside : Environment) → Runs
-        (IsRunOf (finds_in (F.state files.old).contents) (S.state scorer.old).answer (RunScript name.now evaluating)) result
-        (record beside { files = F.state files.old; scorer = S.state scorer.old; out = O.state out.old })
-        (record beside { files = F.state files.new; scorer = S.state scorer.new; out = O.state out.new }) }
+    ensures { Runs
+        (IsRunOf (finds_in (W.state host.old).files.contents) (W.state host.old).scorer.answer (RunScript name.now evaluating)) result
+        (W.state host.old) (W.state host.new) }
 {
-    let mut made = Made {
+    let mut evaluated = Evaluated {
+        evaluating,
         catalog: Catalog::new(alloc),
         session: Session::new(alloc),
+        tables: &mut readers.tables,
     };
-    let done = interpret(
-        alloc,
-        &evaluating,
-        &mut made,
-        name,
-        readers,
-        files,
-        scorer,
-        out,
-    );
-    release(made.catalog, made.session);
+    let done = interpret(alloc, &mut evaluated, name, &mut readers.script, host);
+    release(evaluated.catalog, evaluated.session);
     done
 }
 

@@ -3,7 +3,7 @@ ghost use Rattle.rs_value.specs.Outside.{Keeps};
 ghost use Rattle.rs_run.specs.Outcome.{Reports};
 
 use crate::fault::RunFault;
-use crate::status::Status;
+use rs_events::Status;
 use rs_outside::{Sink, SinkFault};
 use std::alloc::Global;
 

@@ -1,4 +1,4 @@
-ghost use Rattle.std.specs.Prelude.{IfOk};
+ghost use Rattle.std.specs.Prelude.{◌≡◌, IfOk};
 ghost use Rattle.rs_syntax.specs.Syntax.{command_of};
 ghost use Rattle.rs_syntax.specs.Written.{IsWritten};
 ghost use Rattle.rs_catalog.specs.IndexesHold.{IndexesHold};
@@ -20,45 +20,47 @@ use rs_syntax::Statement;
 use rs_table::TableReader;
 use std::alloc::Global;
 
-/// The catalogue, and the cursors that are open.
+/// What `run` and `plain` make of statements: each query is evaluated so, and cursors are kept beside the catalogue. Tables are read
+/// by `tables`.
 #[derive(Drop)]
-pub(crate) struct Made {
+pub(crate) struct Evaluated<'t, T> {
+    pub(crate) evaluating: Evaluating,
     pub(crate) catalog: Catalog,
     pub(crate) session: Session,
+    pub(crate) tables: &'t mut T,
 }
 
-/// What `run` and `plain` make of statements: each query is evaluated so, and cursors are kept beside the catalogue.
-impl Dialect for Evaluating {
+impl<'t, T: TableReader> Dialect for Evaluated<'t, T> {
     ghost use Rattle.rs_catalog.specs.IndexesHold.{IndexesHold};
     ghost use Rattle.rs_statement.specs.Parts.Session.{CanAllBeAsked, held_in, state_of};
     ghost use Rattle.rs_statement.specs.Session.{DoesInSession, State as SessionState};
+    ghost use Rattle.rs_statement.specs.declared.evaluating.Evaluating.{Evaluating as Way};
     ghost use Rattle.rs_run.specs.Plain.{as_it_is};
-
-    type Kept = Made;
 
     type OwnFault = Fault;
 
     ghost State = { SessionState };
 
-    ghost state = { λ made. state_of made.catalog (held_in made.session) };
+    ghost state = { λ own. state_of own.catalog (held_in own.session) };
+
+    ghost Way = { Way };
+
+    ghost way = { λ own. own.evaluating };
 
     ghost does = { λ evaluating finds answer number. DoesInSession finds answer evaluating };
 
-    ghost holds = { λ answer made. IndexesHold answer made.catalog × CanAllBeAsked answer made.catalog (held_in made.session) };
+    ghost holds = { λ answer own. IndexesHold answer own.catalog × CanAllBeAsked answer own.catalog (held_in own.session) };
 
     ghost tells = { as_it_is };
 
-    fn take<T: TableReader, W: Host>(
-        &self,
+    fn take<W: Host>(
+        &mut self,
         alloc: Global,
         _number: usize,
         statement: &Statement,
-        made: &mut Made,
-        tables: &mut T,
         host: &mut W,
     ) -> Result<(), Fault> {
-        let Made { catalog, session } = made;
-        run_statement(alloc, *self, statement, catalog, session, tables, host)
+        self.run_statement(alloc, statement, host)
     }
 
     fn told(why: Fault) -> Fault {
@@ -66,41 +68,50 @@ impl Dialect for Evaluating {
     }
 }
 
-/// Runs a statement.
-fn run_statement<T: TableReader, W: Host>(
-    alloc: Global,
-    evaluating: Evaluating,
-    statement: &Statement,
-    catalog: &mut Catalog,
-    session: &mut Session,
-    tables: &mut T,
-    host: &mut W,
-) -> Result<(), Fault>
-    requires written { IsWritten (command_of statement.now) }
-    requires held { IndexesHold (W.state host.old).scorer.answer catalog.old }
-    requires asked { CanAllBeAsked (W.state host.old).scorer.answer catalog.old (held_in session.old) }
-    ensures does { Stepped
-        (DoesInSession (finds_in (W.state host.old).files.contents) (W.state host.old).scorer.answer evaluating
-        (state_of catalog.old (held_in session.old)) (command_of statement.now)) (state_of catalog.new (held_in session.new)) result
-        (W.state host.old) (W.state host.new) }
-    ensures held { IfOk result (λ _. IndexesHold (W.state host.old).scorer.answer catalog.new) }
-    ensures asked { IfOk result (λ _. CanAllBeAsked (W.state host.old).scorer.answer catalog.new (held_in session.new)) }
-{
-    match statement {
-        Statement::Declare { name, select } => declare(
-            alloc,
-            evaluating,
-            name,
-            select,
-            catalog,
-            session,
-            host.scorer(),
-        ),
-        Statement::Fetch { count, name } => { fetch(alloc, count, name, catalog, session, host) }
-        Statement::Close { name } => close(name, session),
-        _ => {
-            cursors_stand_in_larger_catalogues();
-            run_without_cursor(alloc, evaluating, statement, catalog, tables, host)
+impl<'t, T: TableReader> Evaluated<'t, T> {
+    /// Runs a statement.
+    fn run_statement<W: Host>(
+        &mut self,
+        alloc: Global,
+        statement: &Statement,
+        host: &mut W,
+    ) -> Result<(), Fault>
+        requires written { IsWritten (command_of statement.now) }
+        requires held { IndexesHold (W.state host.old).scorer.answer self.old.catalog }
+        requires asked { CanAllBeAsked (W.state host.old).scorer.answer self.old.catalog (held_in self.old.session) }
+        ensures does { Stepped
+            (DoesInSession (finds_in (W.state host.old).files.contents) (W.state host.old).scorer.answer self.old.evaluating
+            (state_of self.old.catalog (held_in self.old.session)) (command_of statement.now)) (state_of self.new.catalog (held_in self.new.session)) result
+            (W.state host.old) (W.state host.new) }
+        ensures held { IfOk result (λ _. IndexesHold (W.state host.old).scorer.answer self.new.catalog) }
+        ensures asked { IfOk result (λ _. CanAllBeAsked (W.state host.old).scorer.answer self.new.catalog (held_in self.new.session)) }
+        ensures same { self.new.evaluating ≡ self.old.evaluating }
+    {
+        match statement {
+            Statement::Declare { name, select } => declare(
+                alloc,
+                self.evaluating,
+                name,
+                select,
+                &self.catalog,
+                &mut self.session,
+                host.scorer(),
+            ),
+            Statement::Fetch { count, name } => {
+                fetch(alloc, count, name, &self.catalog, &mut self.session, host)
+            }
+            Statement::Close { name } => close(name, &mut self.session),
+            _ => {
+                cursors_stand_in_larger_catalogues();
+                run_without_cursor(
+                    alloc,
+                    self.evaluating,
+                    statement,
+                    &mut self.catalog,
+                    &mut *self.tables,
+                    host,
+                )
+            }
         }
     }
 }

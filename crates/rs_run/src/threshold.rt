@@ -2,12 +2,10 @@
 
 ghost use Rattle.std.specs.Prelude.{◌≡◌, ◌≤◌, ◌∷◌, ◌++◌, ℕ, [], IfOk, OnErr, OnOk, Some, false, length};
 ghost use Rattle.std.specs.String.{string_bytes};
-ghost use Rattle.rs_value.specs.Answer.{Gives};
 ghost use Rattle.rs_lines.specs.Row.{line_of};
 ghost use Rattle.rs_syntax.specs.Syntax.{command_of, commands_of, query_of};
 ghost use Rattle.rs_syntax.specs.Written.{AreWritten, IsWritten, IsWrittenQuery};
 ghost use Rattle.rs_catalog.specs.IndexesHold.{IndexesHold};
-ghost use Rattle.rs_bind.specs.Queries.{bound_query};
 ghost use Rattle.rs_query.specs.WellFormed.{IsBlock, IsQuery};
 ghost use Rattle.rs_query.specs.declared.query.Query.TheVariants.{One};
 ghost use Rattle.rs_ta.specs.Depths.{ScanInput};
@@ -19,7 +17,6 @@ ghost use Rattle.rs_outside.specs.Files.{finds_in};
 ghost use Rattle.rs_events.specs.Run.{lines_run};
 ghost use Rattle.rs_events.specs.Running.{Ran, Runs, Stepped};
 ghost use Rattle.rs_statement.specs.Lines.{rank_lines};
-ghost use Rattle.rs_statement.specs.Statements.{or_bind_fault};
 ghost use Rattle.rs_run.specs.Faults.{run_faults};
 ghost use Rattle.rs_run.specs.Parts.Scanning.{IsAsked, IsBlockRow, IsBrokenOff, IsScanning, IsUnasked, Makes, accesses_text, most_asks, scan_input, scanned_rows};
 ghost use Rattle.rs_run.specs.Running.{IsFormRun};
@@ -27,16 +24,15 @@ ghost use Rattle.rs_run.specs.Threshold.{DoesByScan, access_line, scan_asks, sca
 ghost use Rattle.rs_run.specs.Words.{Threshold};
 ghost use Rattle.rs_run.specs.declared.fault.ScriptWord.TheVariants.{Ta};
 
+use crate::bound_query::bound_query;
 use crate::dialect::{Dialect, interpret};
 use crate::fault::{RunFault, ScriptWord};
 use crate::readers::Readers;
 use crate::statement::run_without_cursor;
-use rs_bind::bind;
 use rs_catalog::{Catalog, Snapshot};
 use rs_events::{Host, put_text};
-use rs_expr::Scorer;
 use rs_lines::RowLines;
-use rs_outside::{Files, Sink};
+use rs_outside::Sink;
 use rs_query::{Block, Query};
 use rs_rank::RankRow;
 use rs_statement::{Evaluating, Fault, Session, release};
@@ -50,39 +46,44 @@ use rs_table::TableReader;
 use rs_value::{Memory, Text};
 use std::alloc::Global;
 
-/// What `ta` makes of statements: each query is answered by a threshold scan. The catalogue alone is kept.
-struct ByScan;
+/// What `ta` makes of statements: each query is answered by a threshold scan. The catalogue alone is kept. Tables are read by
+/// `tables`.
+#[derive(Drop)]
+struct Scanned<'t, T> {
+    catalog: Catalog,
+    tables: &'t mut T,
+}
 
-impl Dialect for ByScan {
+impl<'t, T: TableReader> Dialect for Scanned<'t, T> {
     ghost use Rattle.rs_catalog.specs.Catalog.{CatalogDef};
     ghost use Rattle.rs_catalog.specs.IndexesHold.{IndexesHold};
     ghost use Rattle.rs_run.specs.Threshold.{DoesByScan};
     ghost use Rattle.rs_run.specs.declared.fault.RunFault.TheVariants.{Statement};
 
-    type Kept = Catalog;
-
     type OwnFault = RunFault;
 
     ghost State = { CatalogDef };
 
-    ghost state = { λ catalogue. catalogue };
+    ghost state = { λ own. own.catalog };
 
-    ghost does = { λ dialect. DoesByScan };
+    ghost Way = { Unit {0} };
 
-    ghost holds = { IndexesHold };
+    ghost way = { λ own. tt };
+
+    ghost does = { λ way. DoesByScan };
+
+    ghost holds = { λ answer own. IndexesHold answer own.catalog };
 
     ghost tells = { Statement };
 
-    fn take<T: TableReader, W: Host>(
-        &self,
+    fn take<W: Host>(
+        &mut self,
         alloc: Global,
         number: usize,
         statement: &Statement,
-        catalog: &mut Catalog,
-        tables: &mut T,
         host: &mut W,
     ) -> Result<(), RunFault> {
-        scan_statement(alloc, number, statement, catalog, tables, host)
+        self.run_statement(alloc, number, statement, host)
     }
 
     fn told(why: Fault) -> RunFault {
@@ -92,79 +93,77 @@ impl Dialect for ByScan {
 
 /// Does what a script says, statement by statement, up to the first fault, with its queries answered by threshold scans. It and
 /// its tables are read by these readers.
-pub fn run_by_scan<T: TableReader, F: Files, S: Scorer, O: Sink>(
+pub fn run_by_scan<T: TableReader, W: Host>(
     alloc: Global,
     name: &Text,
     readers: &mut Readers<T>,
-    files: &mut F,
-    scorer: &mut S,
-    out: &mut O,
+    host: &mut W,
 ) -> Result<(), RunFault>
-    ensures { (beside : Environment) → Runs run_faults
-        (IsFormRun (finds_in (F.state files.old).contents) (S.state scorer.old).answer (Threshold name.now)) result
-        (record beside { files = F.state files.old; scorer = S.state scorer.old; out = O.state out.old })
-        (record beside { files = F.state files.new; scorer = S.state scorer.new; out = O.state out.new }) }
+    ensures { Runs run_faults
+        (IsFormRun (finds_in (W.state host.old).files.contents) (W.state host.old).scorer.answer (Threshold name.now)) result
+        (W.state host.old) (W.state host.new) }
 {
-    let mut catalog = Catalog::new(alloc);
-    let done = interpret(
-        alloc,
-        &ByScan,
-        &mut catalog,
-        name,
-        readers,
-        files,
-        scorer,
-        out,
-    );
-    release(catalog, Session::new(alloc));
+    let mut scanned = Scanned {
+        catalog: Catalog::new(alloc),
+        tables: &mut readers.tables,
+    };
+    let done = interpret(alloc, &mut scanned, name, &mut readers.script, host);
+    release(scanned.catalog, Session::new(alloc));
     done
 }
 
-/// Runs the statement of this number.
-fn scan_statement<T: TableReader, W: Host>(
-    alloc: Global,
-    number: usize,
-    statement: &Statement,
-    catalog: &mut Catalog,
-    tables: &mut T,
-    host: &mut W,
-) -> Result<(), RunFault>
-    requires written { IsWritten (command_of statement.now) }
-    requires held { IndexesHold (W.state host.old).scorer.answer catalog.old }
-    ensures does { Stepped run_faults
-        (DoesByScan (finds_in (W.state host.old).files.contents) (W.state host.old).scorer.answer number catalog.old (command_of statement.now)) catalog.new result
-        (W.state host.old) (W.state host.new) }
-    ensures held { IfOk result (λ _. IndexesHold (W.state host.old).scorer.answer catalog.new) }
-{
-    match statement {
-        Statement::Query(select) => scan_query(alloc, number, select, catalog, host),
-        Statement::Declare { .. } => Err(not_eligible(number)),
-        Statement::Fetch { .. } => Err(not_eligible(number)),
-        Statement::Close { .. } => Err(not_eligible(number)),
-        Statement::Explain(_) => Err(not_eligible(number)),
-        Statement::ExplainAnalyze(_) => Err(not_eligible(number)),
-        _ => make(alloc, statement, catalog, tables, host),
+impl<'t, T: TableReader> Scanned<'t, T> {
+    /// Runs the statement of this number.
+    fn run_statement<W: Host>(
+        &mut self,
+        alloc: Global,
+        number: usize,
+        statement: &Statement,
+        host: &mut W,
+    ) -> Result<(), RunFault>
+        requires written { IsWritten (command_of statement.now) }
+        requires held { IndexesHold (W.state host.old).scorer.answer self.old.catalog }
+        ensures does { Stepped run_faults
+            (DoesByScan (finds_in (W.state host.old).files.contents) (W.state host.old).scorer.answer number self.old.catalog (command_of statement.now)) self.new.catalog result
+            (W.state host.old) (W.state host.new) }
+        ensures held { IfOk result (λ _. IndexesHold (W.state host.old).scorer.answer self.new.catalog) }
+    {
+        match statement {
+            Statement::Query(select) => scan_query(alloc, number, select, &self.catalog, host),
+            Statement::Declare { .. } => Err(not_eligible(number)),
+            Statement::Fetch { .. } => Err(not_eligible(number)),
+            Statement::Close { .. } => Err(not_eligible(number)),
+            Statement::Explain(_) => Err(not_eligible(number)),
+            Statement::ExplainAnalyze(_) => Err(not_eligible(number)),
+            _ => self.make(alloc, statement, host),
+        }
     }
-}
 
-/// Runs a statement that makes a table, a predicate, an index or rows, as under the other words.
-fn make<T: TableReader, W: Host>(
-    alloc: Global,
-    statement: &Statement,
-    catalog: &mut Catalog,
-    tables: &mut T,
-    host: &mut W,
-) -> Result<(), RunFault>
-    requires makes { Makes (command_of statement.now) }
-    requires written { IsWritten (command_of statement.now) }
-    requires held { IndexesHold (W.state host.old).scorer.answer catalog.old }
-    ensures does { (number : ℕ) → Stepped run_faults
-        (DoesByScan (finds_in (W.state host.old).files.contents) (W.state host.old).scorer.answer number catalog.old (command_of statement.now)) catalog.new result
-        (W.state host.old) (W.state host.new) }
-    ensures held { IfOk result (λ _. IndexesHold (W.state host.old).scorer.answer catalog.new) }
-{
-    run_without_cursor(alloc, Evaluating::Plainly, statement, catalog, tables, host)?;
-    Ok(())
+    /// Runs a statement that makes a table, a predicate, an index or rows, as under the other words.
+    fn make<W: Host>(
+        &mut self,
+        alloc: Global,
+        statement: &Statement,
+        host: &mut W,
+    ) -> Result<(), RunFault>
+        requires makes { Makes (command_of statement.now) }
+        requires written { IsWritten (command_of statement.now) }
+        requires held { IndexesHold (W.state host.old).scorer.answer self.old.catalog }
+        ensures does { (number : ℕ) → Stepped run_faults
+            (DoesByScan (finds_in (W.state host.old).files.contents) (W.state host.old).scorer.answer number self.old.catalog (command_of statement.now)) self.new.catalog result
+            (W.state host.old) (W.state host.new) }
+        ensures held { IfOk result (λ _. IndexesHold (W.state host.old).scorer.answer self.new.catalog) }
+    {
+        run_without_cursor(
+            alloc,
+            Evaluating::Plainly,
+            statement,
+            &mut self.catalog,
+            &mut *self.tables,
+            host,
+        )?;
+        Ok(())
+    }
 }
 
 /// Puts the rows of a query, the statement of this number, and the line of its accesses. It is bound first.
@@ -216,16 +215,6 @@ fn not_eligible(number: usize) -> RunFault
         word: ScriptWord::Ta,
         statement: number,
     }
-}
-
-/// The query that a statement binds.
-pub(crate) fn bound_query(alloc: Global, catalog: &Catalog, select: &Select) -> Result<Query, Fault>
-    requires { IsWrittenQuery (query_of select.now) }
-    ensures gives { Gives Fault.Memory (or_bind_fault (bound_query catalog.now (query_of select.now))) result }
-    ensures formed { IfOk result (λ query. IsQuery catalog.now query) }
-{
-    let query = bind(alloc, catalog, select)?;
-    Ok(query)
 }
 
 /// Puts the rows of an eligible block, and the line of its accesses. No scorer is called.

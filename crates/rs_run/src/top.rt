@@ -12,10 +12,12 @@ ghost use Rattle.rs_run.specs.Top.{best_rows, named_table, number_at, row_answer
 ghost use Rattle.rs_statement.specs.Parts.Steps.{FetchesFile, Runs};
 ghost use Rattle.rs_run.specs.Parts.Read.{IsRow, IsTopTable};
 ghost use Rattle.rs_run.specs.Words.{Top};
-ghost use Rattle.rs_events.specs.Environment.{Environment};
+ghost use Rattle.rs_run.specs.Parts.CommandLine.{words_of};
 
+use crate::words::TopCommand;
 use rs_catalog::{IndexFault, score_for};
-use rs_outside::{Files, Sink};
+use rs_events::Host;
+use rs_outside::Files;
 use rs_rank::{Answer, Ids, ScoredRow, sort_stably};
 use rs_statement::{Fault, fetch_file, index_fault, only_row, put_rows, table_fault};
 use rs_table::{Schema, TABLE_LIMIT, Table, TableFault};
@@ -23,23 +25,15 @@ use rs_value::{List, Memory, Text, Value};
 use std::alloc::Global;
 use std::hash::RandomState;
 
-/// Puts the first `count` rows of a file's table by the number in a column, greatest first, a tie to the earlier row.
-pub fn top<F: Files, O: Sink>(
-    alloc: Global,
-    file: &Text,
-    column: &Text,
-    max: u32,
-    count: u32,
-    files: &mut F,
-    out: &mut O,
-) -> Result<(), Fault>
-    ensures { (beside : Environment) → Runs
-        (IsRunOf (finds_in (F.state files.old).contents) beside.scorer.answer (Top (record { file = file.now; column = column.now; max = max; count = count }))) result
-        (record beside { files = F.state files.old; out = O.state out.old }) (record beside { files = F.state files.new; out = O.state out.new }) }
+/// Puts the first `words.count` rows of a file's table by the number in a column, greatest first, a tie to the earlier row.
+pub fn top<W: Host>(alloc: Global, words: TopCommand<'_>, host: &mut W) -> Result<(), Fault>
+    ensures { Runs
+        (IsRunOf (finds_in (W.state host.old).files.contents) (W.state host.old).scorer.answer (Top (words_of words.entry))) result
+        (W.state host.old) (W.state host.new) }
 {
-    let table = fetch_table(alloc, file, column, files)?;
-    let rows = best_rows(alloc, &table, column, max, count)?;
-    put_rows(alloc, 0, &rows, out)
+    let table = fetch_table(alloc, words.file, words.column, host.files())?;
+    let rows = best_rows(alloc, &table, words.column, words.max, words.count)?;
+    put_rows(alloc, 0, &rows, host.out())
 }
 
 /// Fetches a file and reads its table, in which the column is of numbers.

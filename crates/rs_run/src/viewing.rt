@@ -17,16 +17,15 @@ ghost use Rattle.rs_run.specs.Viewing.{DoesByViews, DoesKept, declared_step, vie
 ghost use Rattle.rs_run.specs.Words.{Views};
 ghost use Rattle.rs_run.specs.declared.fault.ScriptWord.TheVariants as word;
 
+use crate::bound_query::bound_query;
 use crate::dialect::{Dialect, interpret};
 use crate::fault::{RunFault, ScriptWord};
 use crate::readers::Readers;
 use crate::statement::run_without_cursor;
-use crate::threshold::bound_query;
 use crate::views::{HeldViews, close_view, fetch_view, grow_views, make_view};
 use rs_catalog::Catalog;
 use rs_events::Host;
 use rs_expr::Scorer;
-use rs_outside::{Files, Sink};
 use rs_query::Query;
 use rs_statement::{Evaluating, Fault, Session, insert_rows, release};
 use rs_syntax::{Name, Select, Statement};
@@ -35,47 +34,45 @@ use rs_value::Text;
 use rs_view::{is_keepable, views_go_on_to_stand};
 use std::alloc::Global;
 
-/// What `view` makes of statements: each DECLARE makes a view, which grows with its tables.
-struct ByViews;
-
-/// The catalogue, and the views that are held.
+/// What `view` makes of statements: each DECLARE makes a view, which grows with its tables. The catalogue is kept, and the views that
+/// are held. Tables are read by `tables`.
 #[derive(Drop)]
-struct KeptViews {
+struct Viewed<'t, T> {
     catalog: Catalog,
     held: HeldViews,
+    tables: &'t mut T,
 }
 
-impl Dialect for ByViews {
+impl<'t, T: TableReader> Dialect for Viewed<'t, T> {
     ghost use Rattle.rs_catalog.specs.IndexesHold.{IndexesHold};
     ghost use Rattle.rs_run.specs.Parts.Holding.{AllStand, kept_of, views_in};
-    ghost use Rattle.rs_run.specs.Viewing.{DoesByViews, Kept as KeptDef};
+    ghost use Rattle.rs_run.specs.Viewing.{DoesByViews, Kept};
     ghost use Rattle.rs_run.specs.declared.fault.RunFault.TheVariants.{Statement};
-
-    type Kept = KeptViews;
 
     type OwnFault = RunFault;
 
-    ghost State = { KeptDef };
+    ghost State = { Kept };
 
-    ghost state = { λ kept. kept_of kept.catalog (views_in kept.held) };
+    ghost state = { λ own. kept_of own.catalog (views_in own.held) };
 
-    ghost does = { λ dialect. DoesByViews };
+    ghost Way = { Unit {0} };
 
-    ghost holds = { λ answer kept. IndexesHold answer kept.catalog × AllStand answer kept.catalog (views_in kept.held) };
+    ghost way = { λ own. tt };
+
+    ghost does = { λ way. DoesByViews };
+
+    ghost holds = { λ answer own. IndexesHold answer own.catalog × AllStand answer own.catalog (views_in own.held) };
 
     ghost tells = { Statement };
 
-    fn take<T: TableReader, W: Host>(
-        &self,
+    fn take<W: Host>(
+        &mut self,
         alloc: Global,
         number: usize,
         statement: &Statement,
-        kept: &mut KeptViews,
-        tables: &mut T,
         host: &mut W,
     ) -> Result<(), RunFault> {
-        let KeptViews { catalog, held } = kept;
-        view_statement(alloc, number, statement, catalog, held, tables, host)
+        self.run_statement(alloc, number, statement, host)
     }
 
     fn told(why: Fault) -> RunFault {
@@ -85,64 +82,67 @@ impl Dialect for ByViews {
 
 /// Does what a script says, statement by statement, up to the first fault, with its queries kept as views. It and its tables are
 /// read by these readers.
-pub fn run_with_views<T: TableReader, F: Files, S: Scorer, O: Sink>(
+pub fn run_with_views<T: TableReader, W: Host>(
     alloc: Global,
     name: &Text,
     readers: &mut Readers<T>,
-    files: &mut F,
-    scorer: &mut S,
-    out: &mut O,
+    host: &mut W,
 ) -> Result<(), RunFault>
-    ensures { (beside : Environment) → Runs run_faults
-        (IsFormRun (finds_in (F.state files.old).contents) (S.state scorer.old).answer (Views name.now)) result
-        (record beside { files = F.state files.old; scorer = S.state scorer.old; out = O.state out.old })
-        (record beside { files = F.state files.new; scorer = S.state scorer.new; out = O.state out.new }) }
+    ensures { Runs run_faults
+        (IsFormRun (finds_in (W.state host.old).files.contents) (W.state host.old).scorer.answer (Views name.now)) result
+        (W.state host.old) (W.state host.new) }
 {
-    let mut kept = KeptViews {
+    let mut viewed = Viewed {
         catalog: Catalog::new(alloc),
         held: HeldViews::new(alloc),
+        tables: &mut readers.tables,
     };
-    let done = interpret(
-        alloc, &ByViews, &mut kept, name, readers, files, scorer, out,
-    );
-    drop(kept.held);
-    release(kept.catalog, Session::new(alloc));
+    let done = interpret(alloc, &mut viewed, name, &mut readers.script, host);
+    drop(viewed.held);
+    release(viewed.catalog, Session::new(alloc));
     done
 }
 
-/// Runs the statement of this number.
-fn view_statement<T: TableReader, W: Host>(
-    alloc: Global,
-    number: usize,
-    statement: &Statement,
-    catalog: &mut Catalog,
-    held: &mut HeldViews,
-    tables: &mut T,
-    host: &mut W,
-) -> Result<(), RunFault>
-    requires written { IsWritten (command_of statement.now) }
-    requires indexes { IndexesHold (W.state host.old).scorer.answer catalog.old }
-    requires stand { AllStand (W.state host.old).scorer.answer catalog.old (views_in held.old) }
-    ensures does { Stepped run_faults
-        (DoesByViews (finds_in (W.state host.old).files.contents) (W.state host.old).scorer.answer number (kept_of catalog.old (views_in held.old)) (command_of statement.now))
-        (kept_of catalog.new (views_in held.new)) result (W.state host.old) (W.state host.new) }
-    ensures indexes { IfOk result (λ _. IndexesHold (W.state host.old).scorer.answer catalog.new) }
-    ensures stand { IfOk result (λ _. AllStand (W.state host.old).scorer.answer catalog.new (views_in held.new)) }
-{
-    match statement {
-        Statement::Declare { name, select } => declare_view(
-            alloc,
-            number,
-            name,
-            select,
-            catalog,
-            held,
-            host.scorer(),
-        ),
-        Statement::Query(_) => Err(not_eligible(number)),
-        Statement::Explain(_) => Err(not_eligible(number)),
-        Statement::ExplainAnalyze(_) => Err(not_eligible(number)),
-        _ => told(alloc, statement, catalog, held, tables, host),
+impl<'t, T: TableReader> Viewed<'t, T> {
+    /// Runs the statement of this number.
+    fn run_statement<W: Host>(
+        &mut self,
+        alloc: Global,
+        number: usize,
+        statement: &Statement,
+        host: &mut W,
+    ) -> Result<(), RunFault>
+        requires written { IsWritten (command_of statement.now) }
+        requires indexes { IndexesHold (W.state host.old).scorer.answer self.old.catalog }
+        requires stand { AllStand (W.state host.old).scorer.answer self.old.catalog (views_in self.old.held) }
+        ensures does { Stepped run_faults
+            (DoesByViews (finds_in (W.state host.old).files.contents) (W.state host.old).scorer.answer number (kept_of self.old.catalog (views_in self.old.held)) (command_of statement.now))
+            (kept_of self.new.catalog (views_in self.new.held)) result (W.state host.old) (W.state host.new) }
+        ensures indexes { IfOk result (λ _. IndexesHold (W.state host.old).scorer.answer self.new.catalog) }
+        ensures stand { IfOk result (λ _. AllStand (W.state host.old).scorer.answer self.new.catalog (views_in self.new.held)) }
+    {
+        match statement {
+            Statement::Declare { name, select } => declare_view(
+                alloc,
+                number,
+                name,
+                select,
+                &self.catalog,
+                &mut self.held,
+                host.scorer(),
+            ),
+            Statement::Query(_) => Err(not_eligible(number)),
+            Statement::Explain(_) => Err(not_eligible(number)),
+            Statement::ExplainAnalyze(_) => Err(not_eligible(number)),
+            _ => told(
+                alloc,
+                statement,
+                &mut self.catalog,
+                &mut self.held,
+                &mut *self.tables,
+                host,
+            ),
+        }
     }
 }
 

@@ -1,9 +1,7 @@
 //! The views that a script holds: what DECLARE, INSERT, FETCH and CLOSE do with them under the word `view`.
 
-ghost use Rattle.std.specs.Prelude.{◌≡◌, ◌++◌, ◌∷◌, [], IfErr, IfOk, OnErr, OnOk, drop, false, suc, take};
-ghost use Rattle.indexmap.specs.IndexMap.{keys};
-ghost use Rattle.rs_value.specs.Answer.{Gives};
-ghost use Rattle.rs_catalog.specs.Catalog.{CatalogDef, has_name};
+ghost use Rattle.std.specs.Prelude.{◌≡◌, [], IfErr, IfOk, drop, suc, take};
+ghost use Rattle.rs_catalog.specs.Catalog.{CatalogDef};
 ghost use Rattle.rs_expr.specs.InOrder.{Inquires};
 ghost use Rattle.rs_expr.specs.Scoring.{Answering};
 ghost use Rattle.rs_query.specs.WellFormed.{IsQuery};
@@ -11,11 +9,11 @@ ghost use Rattle.rs_view.specs.Views.{IsKeepable, Stands, rows_in};
 ghost use Rattle.rs_events.specs.Environment.{Environment};
 ghost use Rattle.rs_events.specs.Run.{lines_run};
 ghost use Rattle.rs_statement.specs.Lines.{rank_lines};
+ghost use Rattle.rs_statement.specs.Parts.Named.{entries};
 ghost use Rattle.rs_statement.specs.Parts.Steps.{Leaves, Ran, Stepped};
 ghost use Rattle.rs_run.specs.Parts.Holding.{AllStand, NamesSome, as_all_grown, kept_of, views_in};
-ghost use Rattle.rs_run.specs.Viewing.{close_outcome, fetch_step, growing_all, grown_step, named_step, room_for_view};
+ghost use Rattle.rs_run.specs.Viewing.{close_outcome, fetch_step, growing_all, grown_step, named_step};
 
-use indexmap::IndexMap;
 use rs_bind::bind_count;
 use rs_catalog::Catalog;
 use rs_expr::Scorer;
@@ -23,14 +21,11 @@ use rs_lex::Span;
 use rs_outside::Sink;
 use rs_plain::PlainFault;
 use rs_query::Query;
-use rs_statement::{Fault, SessionFault, put_rows, query_fault, session_fault};
+use rs_statement::{Fault, Named, put_rows, query_fault};
 use rs_syntax::Name;
-use rs_value::{Memory, Text};
+use rs_value::Text;
 use rs_view::View;
 use std::alloc::Global;
-
-/// The most views that may be held at once.
-const MOST_VIEWS: usize = 64;
 
 /// How many rows of a view have their output values at once while they are put.
 const ROWS_AT_ONCE: usize = 64;
@@ -38,7 +33,7 @@ const ROWS_AT_ONCE: usize = 64;
 /// The views of a script by name, in the order of their DECLARE.
 #[derive(Drop)]
 pub(crate) struct HeldViews {
-    views: IndexMap<Text, View>,
+    views: Named<View>,
 }
 
 impl HeldViews {
@@ -47,7 +42,7 @@ impl HeldViews {
         ensures { views_in result ≡ [] }
     {
         HeldViews {
-            views: IndexMap::new(alloc),
+            views: Named::new(alloc),
         }
     }
 }
@@ -71,7 +66,7 @@ pub(crate) fn make_view<S: Scorer>(
     ensures stand { IfOk result (λ _. AllStand (S.state scorer.old).answer catalog.now (views_in held.new)) }
 {
     // What isn't kept is handed to `drop`: to let go of it here, at each end, takes minutes to prove.
-    match room(held, name) {
+    match held.views.room(name) {
         Ok(()) => {}
         Err(why) => {
             drop(query);
@@ -80,57 +75,10 @@ pub(crate) fn make_view<S: Scorer>(
     }
     match View::make(alloc, catalog, query, scorer) {
         Ok(view) => {
-            hold(held, name, view)?;
+            held.views.add(name, view)?;
             Ok(())
         }
         Err(why) => Err(query_fault(catalog, why)),
-    }
-}
-
-/// Whether a view of this name can be held.
-fn room(held: &HeldViews, name: &Text) -> Result<(), Fault>
-    ensures gives { Gives Fault.Memory (room_for_view name.now (views_in held.now)) result }
-    ensures free { IfOk result (λ _. has_name name.now (keys held.now.views) ≡ false) }
-{
-    if held.views.contains_key(name) {
-        return Err(session_fault(SessionFault::NameTaken, name));
-    }
-    if held.views.len() == MOST_VIEWS {
-        return Err(session_fault(SessionFault::Full, name));
-    }
-    Ok(())
-}
-
-/// Makes a view the last one. Where there is no memory, it isn't held.
-fn hold(held: &mut HeldViews, name: &Text, view: View) -> Result<(), Memory>
-    requires { has_name name.now (keys held.old.views) ≡ false }
-    ensures ok { OnOk result (views_in held.new ≡ views_in held.old ++ (name.now, view) ∷ []) }
-    ensures err { OnErr result (views_in held.new ≡ views_in held.old) }
-{
-    match name.copy() {
-        Ok(name) => insert(held, name, view),
-        Err(Memory) => {
-            drop(view);
-            Err(Memory)
-        }
-    }
-}
-
-/// Makes a view that has this name the last one. Where there is no memory, it isn't held.
-fn insert(held: &mut HeldViews, name: Text, view: View) -> Result<(), Memory>
-    requires { has_name name (keys held.old.views) ≡ false }
-    ensures ok { OnOk result (views_in held.new ≡ views_in held.old ++ (name, view) ∷ []) }
-    ensures err { OnErr result (views_in held.new ≡ views_in held.old) }
-{
-    match held.views.insert(name, view) {
-        Ok(none) => {
-            drop(none);
-            Ok(())
-        }
-        Err(failed) => {
-            drop(failed);
-            Err(Memory)
-        }
     }
 }
 
@@ -158,19 +106,19 @@ pub(crate) fn grow_views<S: Scorer>(
 fn grow_all<S: Scorer>(
     alloc: Global,
     catalog: &Catalog,
-    views: &mut IndexMap<Text, View>,
+    views: &mut Named<View>,
     scorer: &mut S,
 ) -> Result<(), PlainFault>
-    requires { AllStand (S.state scorer.old).answer catalog.now views.old.entries }
-    ensures grows { Inquires PlainFault.Memory (growing_all (S.state scorer.old).answer catalog.now views.old.entries)
-        (as_all_grown views.new.entries result) (S.state scorer.old) (S.state scorer.new) }
-    ensures stand { IfOk result (λ _. AllStand (S.state scorer.old).answer catalog.now views.new.entries) }
+    requires { AllStand (S.state scorer.old).answer catalog.now (entries views.old) }
+    ensures grows { Inquires PlainFault.Memory (growing_all (S.state scorer.old).answer catalog.now (entries views.old))
+        (as_all_grown (entries views.new) result) (S.state scorer.old) (S.state scorer.new) }
+    ensures stand { IfOk result (λ _. AllStand (S.state scorer.old).answer catalog.now (entries views.new)) }
 
     // A bad or failed call is one of a term of some view's query.
     ensures names { IfErr result (NamesSome catalog.now) }
 {
     for index in 0..views.len() {
-        if let Some(view) = views.get_index_mut(index) {
+        if let Some(view) = views.at_mut(index) {
             view.grow(alloc, catalog, scorer)?;
         }
     }
@@ -192,10 +140,8 @@ pub(crate) fn fetch_view<O: Sink>(
         (record beside { out = O.state out.old }) (record beside { out = O.state out.new }) }
 {
     let count = bind_count(count.0, count.1)?;
-    match held.views.get(&name.text) {
-        Some(view) => put_first(alloc, catalog, view, count, out),
-        None => Err(session_fault(SessionFault::Unknown, &name.text)),
-    }
+    let view = held.views.named(&name.text)?;
+    put_first(alloc, catalog, view, count, out)
 }
 
 /// Puts the first rows of a view, at most this many. Output values would take far more memory than the view does, so they are made of
@@ -244,11 +190,5 @@ pub(crate) fn close_view(name: &Name, held: &mut HeldViews) -> Result<(), Fault>
     ensures stand { (answer : Answering) (catalogue : CatalogDef) → AllStand answer catalogue (views_in held.old)
         → AllStand answer catalogue (views_in held.new) }
 {
-    match held.views.shift_remove(&name.text) {
-        Some(view) => {
-            drop(view);
-            Ok(())
-        }
-        None => Err(session_fault(SessionFault::Unknown, &name.text)),
-    }
+    held.views.remove(&name.text)
 }

@@ -1,5 +1,6 @@
 ghost use Rattle.std.specs.Prelude.{◌≡◌, option_map};
-ghost use Rattle.rs_run.specs.Words.{cert_form, check_form, feed_form, form_of, gen_form, number_word, plain_form, run_form, ta_form, top_form, view_form};
+ghost use Rattle.rs_run.specs.Words.{cert_words, check_words, feed_words, form_by, form_of, gen_words, number_word, plain_words, run_words, ta_words, top_words, view_words};
+ghost use Rattle.rs_statement.specs.declared.sampling.Sampling.TheVariants.{ByScores};
 ghost use Rattle.rs_run.specs.Parts.CommandLine.{form_of_command_line};
 
 use rs_statement::{Evaluating, Sampling};
@@ -60,10 +61,10 @@ pub fn command_line_of(words: &[Text]) -> Option<CommandLine<'_>>
     if let Some(command) = top_command(words) {
         return Some(command);
     }
-    if let Some(command) = plain_command(words) {
+    if let Some(command) = run_command(words) {
         return Some(command);
     }
-    if let Some(command) = run_command(words) {
+    if let Some(command) = plain_command(words) {
         return Some(command);
     }
     if let Some(command) = gen_command(words) {
@@ -86,7 +87,7 @@ pub fn command_line_of(words: &[Text]) -> Option<CommandLine<'_>>
 
 /// The command of the words `top FILE COLUMN MAX K`.
 fn top_command(words: &[Text]) -> Option<CommandLine<'_>>
-    ensures { option_map form_of_command_line result ≡ top_form words.now }
+    ensures { option_map form_of_command_line result ≡ form_by top_words words.now }
 {
     let [word, file, column, max, count] = words else {
         return None;
@@ -106,7 +107,7 @@ fn top_command(words: &[Text]) -> Option<CommandLine<'_>>
 
 /// The command of the words `plain SCRIPT`.
 fn plain_command(words: &[Text]) -> Option<CommandLine<'_>>
-    ensures { option_map form_of_command_line result ≡ plain_form words.now }
+    ensures { option_map form_of_command_line result ≡ form_by plain_words words.now }
 {
     let [word, script] = words else {
         return None;
@@ -119,7 +120,7 @@ fn plain_command(words: &[Text]) -> Option<CommandLine<'_>>
 
 /// The command of the words `run SCRIPT SEED`.
 fn run_command(words: &[Text]) -> Option<CommandLine<'_>>
-    ensures { option_map form_of_command_line result ≡ run_form words.now }
+    ensures { option_map form_of_command_line result ≡ form_by (run_words ByScores) words.now }
 {
     let [word, script, seed] = words else {
         return None;
@@ -134,7 +135,7 @@ fn run_command(words: &[Text]) -> Option<CommandLine<'_>>
 
 /// The command of the words `gen NUMBER ROWS`.
 fn gen_command(words: &[Text]) -> Option<CommandLine<'_>>
-    ensures { option_map form_of_command_line result ≡ gen_form words.now }
+    ensures { option_map form_of_command_line result ≡ form_by gen_words words.now }
 {
     let [word, number, rows] = words else {
         return None;
@@ -149,7 +150,7 @@ fn gen_command(words: &[Text]) -> Option<CommandLine<'_>>
 
 /// The command of the words `ta SCRIPT`.
 fn ta_command(words: &[Text]) -> Option<CommandLine<'_>>
-    ensures { option_map form_of_command_line result ≡ ta_form words.now }
+    ensures { option_map form_of_command_line result ≡ form_by ta_words words.now }
 {
     let [word, script] = words else {
         return None;
@@ -162,7 +163,7 @@ fn ta_command(words: &[Text]) -> Option<CommandLine<'_>>
 
 /// The command of the words `feed LEFT RIGHT K`.
 fn feed_command(words: &[Text]) -> Option<CommandLine<'_>>
-    ensures { option_map form_of_command_line result ≡ feed_form words.now }
+    ensures { option_map form_of_command_line result ≡ form_by feed_words words.now }
 {
     let [word, left, right, count] = words else {
         return None;
@@ -180,7 +181,7 @@ fn feed_command(words: &[Text]) -> Option<CommandLine<'_>>
 
 /// The command of the words `cert LEFT RIGHT K`.
 fn cert_command(words: &[Text]) -> Option<CommandLine<'_>>
-    ensures { option_map form_of_command_line result ≡ cert_form words.now }
+    ensures { option_map form_of_command_line result ≡ form_by cert_words words.now }
 {
     let [word, left, right, count] = words else {
         return None;
@@ -198,7 +199,7 @@ fn cert_command(words: &[Text]) -> Option<CommandLine<'_>>
 
 /// The command of the words `check FILE`.
 fn check_command(words: &[Text]) -> Option<CommandLine<'_>>
-    ensures { option_map form_of_command_line result ≡ check_form words.now }
+    ensures { option_map form_of_command_line result ≡ form_by check_words words.now }
 {
     let [word, file] = words else {
         return None;
@@ -211,7 +212,7 @@ fn check_command(words: &[Text]) -> Option<CommandLine<'_>>
 
 /// The command of the words `view SCRIPT`.
 fn view_command(words: &[Text]) -> Option<CommandLine<'_>>
-    ensures { option_map form_of_command_line result ≡ view_form words.now }
+    ensures { option_map form_of_command_line result ≡ form_by view_words words.now }
 {
     let [word, script] = words else {
         return None;

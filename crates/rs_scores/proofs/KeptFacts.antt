@@ -16,7 +16,7 @@ use Rattle.csv.specs.Writing.{read_back}
 use Rattle.csv.specs.declared.parser.State.TheVariants as st
 use Rattle.rs_value.specs.Number.{greatest_int, int_value}
 use Rattle.rs_value.specs.Results.{◌>>=◌}
-use Rattle.rs_table.specs.Records.{records_of}
+use Rattle.rs_lines.specs.Records.{records_of}
 use Rattle.rs_scores.specs.Kept.{AreNew, CanBeKept}
 use Rattle.rs_scores.specs.Known.{is_asked}
 use Rattle.rs_scores.specs.Lines.{known_line, known_lines}

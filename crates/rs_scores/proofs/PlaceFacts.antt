@@ -1,6 +1,5 @@
 -- A byte order mark at the front, and the places behind bytes.
-use Rattle.std.proofs.Common.{◌≡◌, ℕ, true, false, List, [], ◌∷◌, ◌++◌, ap, drop, inl, inr, length, ◌≤◌, arith, length-drop, refl}
-use Rattle.std.proofs.lemmas.Bool.{cases_Bool}
+use Rattle.std.proofs.Common.{◌≡◌, ℕ, true, false, List, [], ◌∷◌, ◌++◌, ap, drop, refl}
 use Rattle.csv.specs.Reading.{strip_bom}
 use Rattle.rs_scores.specs.Names.{is_marked}
 use Rattle.rs_scores.specs.Places.{place_after, place_behind}
@@ -29,11 +28,3 @@ strip_bom-behind bytes marked e = ap strip_bom e
 pub place_behind-append : (place : Place) (bytes more : List ℕ) → place_behind place (bytes ++ more) ≡ place_behind (place_behind place bytes) more
 place_behind-append place [] more = refl
 place_behind-append place (byte ∷ rest) more = place_behind-append (place_after place byte) rest more
-
--- the bytes behind a mark are no more than all
-pub length-strip_bom : (bytes : List ℕ) → length (strip_bom bytes) ≤ length bytes
-length-strip_bom bytes =
-    elim (cases_Bool (is_marked bytes)) [
-      | inl marked ↦ omega (arith, ap length (strip_bom-marked bytes marked), length-drop 3 bytes)
-      | inr not ↦ omega (arith, ap length (strip_bom-unmarked bytes not))
-    ]

@@ -1,44 +1,18 @@
 -- The scores of records, one record after another.
-use Rattle.std.proofs.Common.{◌≡◌, ◌+◌, ◌<◌, ◌≤◌, ◌^◌, ℕ, ℤ, zero, suc, Bool, true, false, cond, List, [], ◌∷◌, ◌++◌, length, Option, Some, None, Result, Ok, Err, ◌⊎◌, ap, arith, inl, inr, length-append, lit<, of_z, refl, subst, sym, to_z, ◌∙◌}
-use Rattle.std.specs.Bool.{MatchBool}
+use Rattle.std.proofs.Common.{◌≡◌, ◌+◌, ◌<◌, ◌≤◌, ◌^◌, ℕ, ℤ, true, false, cond, List, [], ◌∷◌, ◌++◌, length, Option, Some, None, Result, Ok, Err, ◌⊎◌, ap, arith, inl, inr, length-append, lit<, of_z, refl, subst, sym, to_z, ◌∙◌}
 use Rattle.std.specs.Int.{w64}
 use Rattle.std.specs.Ordering.{int_eq}
 use Rattle.std.specs.Prelude.{find, nat_abs, option_map}
 use Rattle.std.proofs.lemmas.Int.{fits_signed_from_abs, to_z-of_z}
-use Rattle.std.proofs.lemmas.Bool.{true≢false}
-use Rattle.csv.specs.Machine.{next_record}
-use Rattle.csv.specs.Reading.{Ready, default_config, is_flexible, names_headers, reader_config, reader_headers, reader_trim, records_from, records_next, strip_bom}
-use Rattle.csv.specs.declared.parser.State.{State}
-use Rattle.csv.specs.declared.parser.State.TheVariants as st
-use Rattle.csv.specs.declared.reader.Trim.TheVariants as trim
 use Rattle.rs_value.specs.Answer.{Gives}
 use Rattle.rs_value.specs.Number.{greatest_int}
 use Rattle.rs_value.specs.Results.{◌>>=◌}
-use Rattle.rs_table.specs.Records.{ByteReader, IsReading, bytes_left, records_left, records_of}
-use Rattle.rs_table.proofs.RecordsFacts.{Found-from_read, ReadBytes, records_left-none}
 use Rattle.rs_scores.specs.Known.{Known, score_of, score_with}
 use Rattle.rs_scores.specs.Questions.{is_same_question}
 use Rattle.rs_scores.specs.Reading.{Knows, Reads, known_of, score_in, scores_from, with_entry, with_record}
 use Rattle.rs_scores.specs.declared.fault.KnownFault.{KnownFault}
 use Rattle.rs_scores.specs.declared.fault.KnownFault.TheVariants.{Memory, Twice}
 use Rattle.rs_scores.specs.declared.known_score.KnownScore.{KnownScore}
-
--- a new reader that takes no header row, over the bytes behind a byte order mark
-pub IsReading-behind : (reader : ByteReader) (bytes : List ℕ) → reader_config reader ≡ default_config → reader_trim reader ≡ trim.None
-    → names_headers reader ≡ false → reader_headers reader ≡ None → is_flexible reader ≡ true → bytes_left reader ≡ Some (strip_bom bytes) → length (strip_bom bytes) ≤ 33554432 → IsReading reader
-IsReading-behind reader bytes config untrimmed named headers flexible known few =
-    record { config = config; untrimmed = untrimmed; ready = inr (inr (named, headers)); flexible = flexible; bytes = strip_bom bytes; known = known; few = few }
-
--- what a read says of the records that are left
-pub next-found : (found : Bool) (old new : ByteReader) (fields : List (List ℕ)) → IsReading old → Ready new → is_flexible new ≡ is_flexible old → ReadBytes old new found fields
-    → MatchBool found (records_left old ≡ fields ∷ records_left new) (records_left old ≡ [])
-next-found true old new fields h ready flexible read = (Found-from_read old new fields h ready flexible read).first
-next-found false old new fields h ready flexible read = records_left-none old new fields h read
-
-pub next-reading : (found : Bool) (old new : ByteReader) (fields : List (List ℕ)) → IsReading old → Ready new → is_flexible new ≡ is_flexible old → ReadBytes old new found fields
-    → found ≡ true → IsReading new
-next-reading true old new fields h ready flexible read e = (Found-from_read old new fields h ready flexible read).reading
-next-reading false old new fields h ready flexible read e = absurd (true≢false (sym e))
 
 -- a table with no score has the scores of no record
 pub Knows-none : (names : List (List ℕ)) (known : Known) → known.names ≡ names → known.scores ≡ [] → Knows names [] known
@@ -154,20 +128,6 @@ SoFar-fault names number known new left rest all fields fault so_far next adds =
       | inl memory ↦ inl memory
       | inr refused ↦ inr (sym so_far.2 ∙ ap (scores_from names (number + 1) so_far.0) next ∙ ap (λ answer. answer >>= λ scores. scores_from names (number + 1 + 1) scores rest) refused)
     ]
-
--- a text has no more records than were looked for
-length-records_from : (n : ℕ) (s : State) (bytes : List ℕ) → length (records_from default_config n s bytes) ≤ n
-unfolding records_from
-length-records_from zero s bytes = omega arith
-length-records_from (suc n) s bytes =
-    (elim (next_record default_config s [] [] bytes) as (λ read. length (records_next (records_from default_config n) read) ≤ suc n) [
-      | None ↦ omega arith
-      | Some p ↦ omega (arith, length-records_from n p.1 p.2)
-    ])
-
--- so a file has at most one record more than bytes behind its mark
-pub length-records_of : (bytes : List ℕ) → length (records_of bytes) ≤ length (strip_bom bytes) + 1
-length-records_of bytes = length-records_from (length (strip_bom bytes) + 1) st.StartRecord (strip_bom bytes)
 
 -- a score in range is the same as 64 bits
 pub score-fits : (score : ℤ) → nat_abs score ≤ greatest_int → to_z w64 (of_z w64 score) ≡ score

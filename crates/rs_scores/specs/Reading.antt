@@ -5,7 +5,7 @@ use Rattle.std.specs.Str.{is_utf8}
 use Rattle.csv.specs.Reading.{strip_bom}
 use Rattle.rs_value.specs.Number.{int_value}
 use Rattle.rs_value.specs.Results.{◌>>=◌}
-use Rattle.rs_table.specs.Records.{records_of}
+use Rattle.rs_lines.specs.Records.{records_of}
 use Rattle.rs_scores.specs.Known.{Known, is_asked, score_of}
 use Rattle.rs_scores.specs.Names.{has_marked}
 use Rattle.rs_scores.specs.Places.{is_record, place_behind}

@@ -1,11 +1,10 @@
-ghost use Rattle.std.specs.Prelude.{◌≡◌, ◌∷◌, ◌≤◌, ◌<◌, ◌⊎◌, [], List, IfOk, MatchResult, if◌then◌else◌, length, nat_abs, slice_index_or, true};
-ghost use Rattle.std.specs.Bool.{MatchBool};
+ghost use Rattle.std.specs.Prelude.{◌≡◌, ◌∷◌, ◌≤◌, ◌<◌, ◌⊎◌, [], List, IfOk, MatchResult, if◌then◌else◌, length, nat_abs, slice_index_or};
 ghost use Rattle.std.specs.Str.{is_utf8};
 ghost use Rattle.csv.specs.Reading.{strip_bom};
 ghost use Rattle.csv.specs.Records.{fields_of};
 ghost use Rattle.rs_value.specs.Answer.{Gives};
 ghost use Rattle.rs_value.specs.Number.{greatest_int};
-ghost use Rattle.rs_table.specs.Records.{IsReading, records_left, records_of};
+ghost use Rattle.rs_lines.specs.Records.{records_of};
 ghost use Rattle.rs_scores.specs.Reading.{Knows, Reads, ReadsTable, is_ended, known_in, known_of, scores_behind, scores_from, scores_in, texts_from, with_entry, with_record};
 
 use crate::fault::KnownFault;
@@ -14,7 +13,8 @@ use crate::known_score::KnownScore;
 use crate::names::{has_marked, is_marked};
 use crate::place::Place;
 use crate::question::Question;
-use csv::{ByteRecord, Reader, ReaderBuilder};
+use csv::ByteRecord;
+use rs_lines::{next_record, reader_of};
 use rs_value::{Memory, Text, TextFault, int_of};
 use std::alloc::Global;
 
@@ -119,32 +119,6 @@ fn read_records(alloc: Global, bytes: &[u8], known: &mut KnownScores) -> Result<
         add_record(alloc, number, &row, known)?;
     }
     Ok(())
-}
-
-/// What reads the records of these bytes, behind one byte order mark.
-fn reader_of<'a>(alloc: Global, bytes: &'a [u8]) -> Reader<&'a [u8]>
-    requires { length (strip_bom bytes.now) ≤ 33554432 }
-    ensures reading { IsReading result }
-    ensures records { records_left result ≡ records_of bytes.now }
-{
-    ReaderBuilder::new()
-        .has_headers(false)
-        .flexible(true)
-        .from_reader(alloc, bytes)
-}
-
-/// Reads the next record, where one is left.
-fn next_record<'a>(reader: &mut Reader<&'a [u8]>, row: &mut ByteRecord) -> Result<bool, Memory>
-    requires { IsReading reader.old }
-    ensures found { IfOk result (λ found.
-        MatchBool found (records_left reader.old ≡ fields_of row.new ∷ records_left reader.new) (records_left reader.old ≡ [])) }
-    ensures reading { IfOk result (λ found. found ≡ true → IsReading reader.new) }
-{
-    // Records may differ in length and are read as bytes, so an error is no fault of the file.
-    let Ok(found) = reader.read_byte_record(row) else {
-        return Err(Memory);
-    };
-    Ok(found)
 }
 
 /// Adds the score of the record of this number.

@@ -8,7 +8,6 @@ use Rattle.rs_query.specs.declared.query.Query.{Query}
 use Rattle.rs_plan.specs.Counts.{counts_of_plan}
 use Rattle.rs_plan.specs.Lists as plan
 use Rattle.rs_plan.specs.Trees.{PlanTree}
-use Rattle.rs_sample.specs.Cards.{BlockCards}
 use Rattle.rs_enum.specs.Texts.{text_of}
 use Rattle.rs_exec.specs.Asking.{world_of}
 use Rattle.rs_exec.specs.Cursors.{CursorState, IsNew, StandsFor, asks_after, asks_of, is_over, plan_of}
@@ -151,14 +150,14 @@ module _ (catalogue : CatalogDef) (answer : Answering) where
         go true over most = max-over (asks_of cursor) (all_of cursor) (all_of start) (max (asks_of start) (all_of start)) most same-all so.all
         go false more most = max-last (asks_of cursor) (all_of cursor) (all_of start) (max (asks_of start) (all_of start)) (more-all w tree (asks_of cursor) more) most same-all so.all
 
--- the text of a new cursor that is asked for all
-pub text-started : (catalogue : CatalogDef) (answer : Answering) (query : Query) (tree : PlanTree) (started : CursorState) (cards : List BlockCards) → IsNew query tree started
-    → text_of catalogue started.query cards (plan_of started) (Some (counts_of_plan (world_of catalogue answer started.query) (plan_of started) (most_asks catalogue answer started)))
-    ≡ text_of catalogue query cards tree (Some (counts_of_plan (world_of catalogue answer query) tree (asks_in_all (world_of catalogue answer query) tree)))
-text-started catalogue answer query tree started cards new =
-    let told = λ (q : Query) (t : PlanTree) (n : ℕ). text_of catalogue q cards t (Some (counts_of_plan (world_of catalogue answer q) t (max n (asks_in_all (world_of catalogue answer q) t)))) in
-    ap (λ q. told q (plan_of started) (asks_of started)) new.query_is ∙ ap (λ t. told query t (asks_of started)) new.plan_is ∙ ap (told query tree) new.unasked
-    ∙ ap (λ n. text_of catalogue query cards tree (Some (counts_of_plan (world_of catalogue answer query) tree n))) (max-none (asks_in_all (world_of catalogue answer query) tree))
+-- the counts of a new cursor that is asked for all
+pub counts-started : (catalogue : CatalogDef) (answer : Answering) (query : Query) (tree : PlanTree) (started : CursorState) → IsNew query tree started
+    → counts_of_plan (world_of catalogue answer started.query) (plan_of started) (most_asks catalogue answer started)
+    ≡ counts_of_plan (world_of catalogue answer query) tree (asks_in_all (world_of catalogue answer query) tree)
+counts-started catalogue answer query tree started new =
+    let counts = λ (q : Query) (t : PlanTree) (n : ℕ). counts_of_plan (world_of catalogue answer q) t (max n (asks_in_all (world_of catalogue answer q) t)) in
+    ap (λ q. counts q (plan_of started) (asks_of started)) new.query_is ∙ ap (λ t. counts query t (asks_of started)) new.plan_is ∙ ap (counts query tree) new.unasked
+    ∙ ap (counts_of_plan (world_of catalogue answer query) tree) (max-none (asks_in_all (world_of catalogue answer query) tree))
 
 -- the text that EXPLAIN ANALYZE puts, and what it does behind the sample of a query
 abbrev pub analyzed_lines : Answering → CatalogDef → Sampling → Query → Step CatalogDef
@@ -171,10 +170,12 @@ abbrev pub analyzing : Answering → CatalogDef → Sampling → Query → Step 
 analyzing answer catalogue sampling query =
     then_step (silent (planned_step (world_of catalogue answer query) (plan_for answer catalogue sampling query))) (analyzed_lines answer catalogue sampling query)
 
--- asks of one plan, over the same answers
-pub same-asks : (catalogue : CatalogDef) (query : Query) (answer own : Answering) (plan made : PlanTree) (result : Result (Unit {0}) Fault) (old new : Environment) → own ≡ answer → made ≡ plan
-    → Stepped (λ step. step ≡ silent (planned_step (world_of catalogue own query) made)) catalogue result old new
+-- asks of one query by one plan, over the same answers
+pub same-asks : (catalogue : CatalogDef) (query asked : Query) (answer own : Answering) (plan made : PlanTree) (result : Result (Unit {0}) Fault) (old new : Environment)
+    → asked ≡ query → own ≡ answer → made ≡ plan
+    → Stepped (λ step. step ≡ silent (planned_step (world_of catalogue own asked) made)) catalogue result old new
     → Stepped (λ step. step ≡ silent (planned_step (world_of catalogue answer query) plan)) catalogue result old new
-same-asks catalogue query answer own plan made result old new is same stepped =
-    subst (λ t. Stepped (λ step. step ≡ silent (planned_step (world_of catalogue answer query) t)) catalogue result old new) same
-    (subst (λ a. Stepped (λ step. step ≡ silent (planned_step (world_of catalogue a query) made)) catalogue result old new) is stepped)
+same-asks catalogue query asked answer own plan made result old new of is same stepped =
+    subst (λ whole. Stepped (λ step. step ≡ silent whole) catalogue result old new)
+    (ap (λ q. planned_step (world_of catalogue own q) made) of ∙ ap (λ a. planned_step (world_of catalogue a query) made) is ∙ ap (planned_step (world_of catalogue answer query)) same)
+    stepped

@@ -25,5 +25,6 @@ pub mod OneStep
 pub mod SameFetches
 pub mod SamePuts
 pub mod LargerRows
+pub mod EntryFacts
 pub mod SessionFacts
 pub mod SessionSteps

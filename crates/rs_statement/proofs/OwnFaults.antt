@@ -68,7 +68,8 @@ use Rattle.rs_statement.specs.Inserts.{grow_outcome, insert_step}
 use Rattle.rs_statement.specs.declared.evaluating.Evaluating.{Evaluating}
 use Rattle.rs_statement.specs.declared.evaluating.Evaluating.TheVariants.{Planned, Plainly}
 use Rattle.rs_statement.specs.Statements.{Does, DoesTable, analyze_step, analyzed_step, explain_outcome, explain_step, explained_step, index_step, or_bind_fault, or_room_fault, query_outcome, query_step, refused_or, select_step, table_step, with_room}
-use Rattle.rs_statement.specs.Session.{ByPlan, DoesInSession, OpenCursor, Ready, Source, State, beside_cursors, cursor_named, declare_step, declared_query, fetch_step, fetched_cursor, fetched_from, fetched_step, opened_step, or_session_fault, ready_outcome, room_for_cursor, with_asks, without_cursor}
+use Rattle.rs_statement.specs.Named.{or_session_fault}
+use Rattle.rs_statement.specs.Session.{ByPlan, DoesInSession, OpenCursor, Ready, Source, State, beside_cursors, cursor_named, declare_step, declared_query, fetch_step, fetched_cursor, fetched_from, fetched_step, opened_step, ready_outcome, room_for_cursor, with_asks, without_cursor}
 use Rattle.rs_statement.proofs.AnalyzeSteps.{analyzed_lines}
 
 -- the faults of `top` and of statements

@@ -1,9 +1,9 @@
 -- Of two sessions that declare, fetch and close alike, where each cursor of the one has its rows ready and that of the other asks a plan, each FETCH gives the same lines. What joins
 -- the catalogue changes nothing of that.
-use Rattle.std.proofs.Common.{ℕ, zero, suc, ◌≡◌, ◌∙◌, ◌+◌, ◌-◌, ◌≤◌, ◌==◌, Bool, true, false, List, [], ◌∷◌, ◌++◌, length, length-append, take, drop, map, min, refl, sym, ap, subst, arith, length-drop}
+use Rattle.std.proofs.Common.{ℕ, zero, suc, ◌≡◌, ◌∙◌, ◌+◌, ◌-◌, ◌≤◌, Bool, true, false, List, [], ◌∷◌, ◌++◌, length, length-append, take, drop, map, min, refl, sym, ap, subst, arith, length-drop}
 use Rattle.std.specs.Prelude.{not, Option, Some, None, Ok, Err, nat_le, cond, if◌then◌else◌}
 use Rattle.std.specs.Cmp.Lexicographic.{bytes_decides}
-use Rattle.std.specs.List.{AllByRecursion, filter}
+use Rattle.std.specs.List.{AllByRecursion}
 use Rattle.std.specs.Str.{bytes_eq}
 use Rattle.std.proofs.Math.Seq.{take-nil}
 use Rattle.std.proofs.lemmas.Bool.{leb-false, leb-true, or_parts}
@@ -23,7 +23,6 @@ use Rattle.rs_catalog.specs.IndexesHold.{IndexesHold}
 use Rattle.rs_catalog.specs.Snapshot.{HaveRows, size_at, snapshot}
 use Rattle.rs_catalog.proofs.SnapshotFacts.{HaveRows-push, HaveRows-with_rows, snapshot-joined, snapshot-with_index, snapshot-with_table}
 use Rattle.rs_catalog.specs.declared.index.IndexDef.{IndexDef}
-use Rattle.rs_catalog.specs.declared.room.RoomFault.TheVariants as room
 use Rattle.rs_query.specs.Answers.{cut, limit_of}
 use Rattle.rs_query.specs.WellFormed.{IsQuery}
 use Rattle.rs_query.specs.declared.query.Query.{Query}
@@ -35,7 +34,9 @@ use Rattle.rs_exec.specs.Cursors.{SameAsks, answers_of}
 use Rattle.rs_exec.proofs.CoversFacts.{covers, covers-larger}
 use Rattle.rs_statement.specs.Lines.{rank_lines}
 use Rattle.rs_statement.specs.Planned.{ask_count}
-use Rattle.rs_statement.specs.Session.{ByPlan, OpenCursor, Ready, asked_more, cursor_named, most_cursors, next_rows, or_session_fault, room_for_cursor}
+use Rattle.rs_statement.specs.Session.{ByPlan, OpenCursor, Ready, asked_more, cursor_named, next_rows, room_for_cursor}
+use Rattle.rs_statement.specs.Named as named
+use Rattle.rs_statement.proofs.EntryFacts.{each-named, room-free}
 use Rattle.rs_statement.proofs.LargerRows.{SameAsks-itself}
 use Rattle.rs_statement.proofs.UnfilteredFacts.{unfiltered}
 
@@ -148,14 +149,6 @@ module _ (answer : Answering) where
 flipped : (a b : List ℕ) → bytes_eq a b ≡ bytes_eq b a
 flipped a b = nat_list_eq_equiv.symm a b
 
--- what is so of each cursor is so of the one that is found
-found-all : (P : OpenCursor → Type 0) (name : List ℕ) (cursors : List OpenCursor) (found : OpenCursor) → AllByRecursion P cursors → cursor_named name cursors ≡ Ok found → P found
-found-all P name [] found all is = absurd cc
-found-all P name (c ∷ cursors) found all is = go (found-all P name cursors found all.1) (bytes_eq c.name name) is where
-  go : (cursor_named name cursors ≡ Ok found → P found) → (b : Bool) → (if b then Ok c else cursor_named name cursors) ≡ Ok found → P found
-  go rest true e = let same : c ≡ found = cc in subst P same all.0
-  go rest false e = rest e
-
 -- cursors of other names stay others, and are asked no more
 module _ (name : List ℕ) (asks : ℕ) where
   others-asked : (other : List ℕ) (cursors : List OpenCursor) → AreOthers other cursors → AreOthers other (map (asked_more name asks) cursors)
@@ -171,7 +164,7 @@ module _ (name : List ℕ) (asks : ℕ) where
       ap (λ b. (if b then record c { asked = c.asked + asks } else c) ∷ map (asked_more name asks) cursors) others.0 ∙ ap (λ rest. c ∷ rest) (unasked cursors others.1)
 
 abbrev pub without : List ℕ → List OpenCursor → List OpenCursor
-without name cursors = filter (λ (c : OpenCursor). not (bytes_eq c.name name)) cursors
+without name cursors = named.without (λ (c : OpenCursor). c.name) name cursors
 
 others-without : (other name : List ℕ) (cursors : List OpenCursor) → AreOthers other cursors → AreOthers other (without name cursors)
 others-without other name [] all = tt
@@ -194,10 +187,7 @@ others-unnamed name (c ∷ cursors) free =
 
 -- where a cursor of a name can be opened, no cursor has the name
 pub others-free : (name : List ℕ) (cursors : List OpenCursor) → room_for_cursor name cursors ≡ Ok tt → AreOthers name cursors
-others-free name cursors opens = others-unnamed name cursors (go (has_name name (names cursors)) opens) where
-  go : (taken : Bool) → or_session_fault name (if taken then Err room.NameTaken else if length (names cursors) == most_cursors then Err room.Full else Ok tt) ≡ Ok tt → taken ≡ false
-  go true opens = absurd cc
-  go false opens = refl
+others-free name cursors opens = others-unnamed name cursors (room-free name (names cursors) opens)
 
 module _ (answer : Answering) (catalogue : CatalogDef) where
   -- the test of a name comes out alike at two cursors that agree
@@ -250,8 +240,8 @@ module _ (answer : Answering) (catalogue : CatalogDef) where
               (subst (λ l. AgreeAll answer catalogue l (map (asked_more d.name b) (d ∷ qs))) (sym (asked-self a c ps all.1))
               (subst (λ l. AgreeAll answer catalogue (more a c ∷ ps) l) (sym (asked-self b d qs all.2)) whole)))
           go rest false x y =
-              let other = flipped c.name p.name ∙ found-all (λ (o : OpenCursor). bytes_eq o.name c.name ≡ false) name ps p all.1 x in
-              let another = flipped d.name q.name ∙ found-all (λ (o : OpenCursor). bytes_eq o.name d.name ≡ false) name qs q all.2 y in
+              let other = flipped c.name p.name ∙ each-named (λ (o : OpenCursor). bytes_eq o.name c.name ≡ false) (λ (o : OpenCursor). o.name) (λ (o : OpenCursor). o) name ps p all.1 x in
+              let another = flipped d.name q.name ∙ each-named (λ (o : OpenCursor). bytes_eq o.name d.name ≡ false) (λ (o : OpenCursor). o.name) (λ (o : OpenCursor). o) name qs q all.2 y in
               let whole : AgreeAll answer catalogue (c ∷ map (asked_more p.name a) ps) (d ∷ map (asked_more q.name b) qs) =
               (all.0, others-asked p.name a c.name ps all.1, others-asked q.name b d.name qs all.2, rest x y) in
               subst (λ l. AgreeAll answer catalogue l (map (asked_more q.name b) (d ∷ qs))) (sym (asked-other a c p ps other))

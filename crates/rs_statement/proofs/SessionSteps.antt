@@ -3,7 +3,7 @@ use Rattle.std.proofs.Common.{ℕ, ℤ, ◌≡◌, ◌∙◌, ◌+◌, List, [],
 use Rattle.std.specs.Prelude.{IfOk, Some, None, Result, Ok, Err, ◌⊎◌}
 use Rattle.std.specs.Cmp.Lexicographic.{pointwise}
 use Rattle.std.specs.List.{IsDistinct}
-use Rattle.std.specs.Map.{keys_of, lookup, remove_entry, set_value}
+use Rattle.std.specs.Map.{keys_of, lookup, set_value}
 use Rattle.rs_value.specs.Answer.{Gives}
 use Rattle.rs_value.specs.Results.{◌>>=◌}
 use Rattle.rs_lex.specs.declared.token.Span.{Span}
@@ -28,7 +28,8 @@ use Rattle.rs_statement.specs.declared.fault.SessionFault.TheVariants.{Unknown}
 use Rattle.rs_statement.specs.declared.session.CursorRows.{CursorRows}
 use Rattle.rs_statement.specs.declared.session.CursorRows.TheVariants as held
 use Rattle.rs_statement.specs.Parts.Session.{IsOfNoCursor, asked_of, cursors_of, next_of, next_of_cursor, open_cursor, rows_step, seen_by, source_of, state_of, wanted_step}
-use Rattle.rs_statement.specs.Parts.Steps.{Ran, Stepped}
+use Rattle.rs_statement.specs.Named.{named_in, without}
+use Rattle.rs_statement.specs.Parts.Steps.{Leaves, Ran, Stepped}
 use Rattle.rs_events.specs.Sequence.{run_of, still, then_step}
 use Rattle.rs_statement.specs.Planned.{plan_for}
 use Rattle.rs_outside.specs.Files.{Finds}
@@ -39,7 +40,8 @@ use Rattle.rs_statement.specs.Statements.{Does, bind_fault, or_bind_fault, refus
 use Rattle.rs_statement.specs.declared.evaluating.Evaluating.TheVariants.{Planned}
 use Rattle.rs_events.specs.Environment.{Environment}
 use Rattle.rs_statement.proofs.SampleSteps.{Stepped-then}
-use Rattle.rs_statement.proofs.SessionFacts.{cursors-append, cursors-remove, cursors-set, is_key, named-none, named-some}
+use Rattle.rs_statement.proofs.EntryFacts.{Leaves-found, is_key, named-then}
+use Rattle.rs_statement.proofs.SessionFacts.{cursor-named, cursors-append, cursors-set, cursors-without}
 use Rattle.rs_events.proofs.SoFar.{Stepped-broken}
 use Rattle.rs_statement.proofs.StepFacts.{Stepped-bound}
 use Rattle.rs_events.proofs.SteppedFacts.{Stepped-lines, Stepped-no_memory, Stepped-still}
@@ -183,21 +185,16 @@ module _ (answer : Answering) (catalogue : CatalogDef) (entries written : List (
       (asked-left asks same) (Stepped-lines _ (with_asks name asks from) result old new (subst (λ step. Ran (run_of step) result old new) made.does made.ran))
 
 -- CLOSE of a name
-module _ (catalogue : CatalogDef) (entries : List (List ℕ × CursorRows)) (name : Name) where
-  closed-by : (found : Result OpenCursor Fault) → cursor_named name.text (cursors_of entries) ≡ found
-      → close_outcome (state_of catalogue entries) name ≡ (found >>= (λ cursor. Ok (without_cursor name.text (state_of catalogue entries))))
-  closed-by found e = ap (λ r. r >>= (λ (cursor : OpenCursor). Ok (without_cursor name.text (state_of catalogue entries)))) e
-
-  pub closed-known : (kept : CursorRows) (left : List (List ℕ × CursorRows)) → lookup (is_key name.text) entries ≡ Some kept → left ≡ remove_entry (is_key name.text) entries
-      → lookup (is_key name.text) left ≡ None → close_outcome (state_of catalogue entries) name ≡ Ok (state_of catalogue left)
-  closed-known kept left found removed none =
-      closed-by (Ok (open_cursor (name.text, kept))) (named-some name.text entries kept found)
-      ∙ (λ i. Ok (record { catalogue = catalogue; cursors = sym (ap cursors_of removed ∙ cursors-remove name.text entries (ap (lookup (is_key name.text)) (sym removed) ∙ none)) i }))
-
-  pub closed-unknown : (told : Fault) → lookup (is_key name.text) entries ≡ None → (told ≡ Session Unknown name.text) ⊎ (told ≡ Memory)
-      → (told ≡ Memory) ⊎ (close_outcome (state_of catalogue entries) name ≡ Err told)
-  closed-unknown told none (inl is) = inr (closed-by (Err (Session Unknown name.text)) (named-none name.text entries none) ∙ ap Err (sym is))
-  closed-unknown told none (inr is) = inl is
+pub Leaves-closed : (catalogue : CatalogDef) (entries left : List (List ℕ × CursorRows)) (name : Name) (result : Result (Unit {0}) Fault)
+    → Gives Memory (named_in (λ (entry : List ℕ × CursorRows). entry.0) (λ (entry : List ℕ × CursorRows). tt) name.text entries) result
+    → left ≡ without (λ (entry : List ℕ × CursorRows). entry.0) name.text entries → Leaves (close_outcome (state_of catalogue entries) name) (state_of catalogue left) result
+Leaves-closed catalogue entries left name result gives same =
+    let next = Ok (without_cursor name.text (state_of catalogue entries)) in
+    Leaves-found (close_outcome (state_of catalogue entries) name) (state_of catalogue left) _ result
+    (ap (λ found. found >>= (λ cursor. next)) (cursor-named name.text entries)
+    ∙ named-then (λ (entry : List ℕ × CursorRows). entry.0) open_cursor (λ (entry : List ℕ × CursorRows). tt) next name.text entries
+    ∙ (λ i. named_in (λ (entry : List ℕ × CursorRows). entry.0) (λ (entry : List ℕ × CursorRows). tt) name.text entries
+    >>= (λ done. Ok (record { catalogue = catalogue; cursors = (cursors-without name.text entries ∙ ap cursors_of (sym same)) i })))) gives
 
 -- a cursor that was opened is the last one
 module _ (catalogue : CatalogDef) (entries after : List (List ℕ × CursorRows)) (name : List ℕ) where

@@ -6,5 +6,6 @@ pub mod Planned
 pub mod Sampled
 pub mod Inserts
 pub mod Statements
+pub mod Named
 pub mod Session
 pub mod Parts

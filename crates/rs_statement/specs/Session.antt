@@ -1,6 +1,5 @@
 -- The session of a script: the cursors that are open beside the catalogue, what DECLARE, FETCH and CLOSE do, and the run of all statements.
-use Rattle.std.specs.Prelude.{ℕ, ℤ, ◌+◌, ◌-◌, ◌≡◌, not, min, List, [], ◌∷◌, ◌++◌, length, map, take, drop, suc, Result, Ok, Err, if◌then◌else◌}
-use Rattle.std.specs.List.{filter}
+use Rattle.std.specs.Prelude.{ℕ, ℤ, ◌+◌, ◌-◌, ◌≡◌, min, List, [], ◌∷◌, ◌++◌, length, map, take, drop, suc, Result, Ok, Err, if◌then◌else◌}
 use Rattle.std.specs.Str.{bytes_eq}
 use Rattle.rs_value.specs.Results.{◌>>=◌}
 use Rattle.rs_lex.specs.declared.token.Span.{Span}
@@ -9,10 +8,8 @@ use Rattle.rs_syntax.specs.declared.name.Name.{Name}
 use Rattle.rs_syntax.specs.Syntax.{Command, Close, Declare, Fetch}
 use Rattle.rs_syntax.specs.Syntax as syntax
 use Rattle.rs_expr.specs.Scoring.{Answering}
-use Rattle.rs_catalog.specs.Catalog.{CatalogDef, empty, room_in}
+use Rattle.rs_catalog.specs.Catalog.{CatalogDef, empty}
 use Rattle.rs_catalog.specs.Snapshot.{HaveRows, sizes_in, snapshot}
-use Rattle.rs_catalog.specs.declared.room.RoomFault.{RoomFault}
-use Rattle.rs_catalog.specs.declared.room.RoomFault.TheVariants as room
 use Rattle.rs_bind.specs.Queries.{bound_query, count_of}
 use Rattle.rs_query.specs.Views.{all_rows}
 use Rattle.rs_query.specs.declared.query.Query.{Query}
@@ -24,9 +21,7 @@ use Rattle.rs_exec.specs.Covering.{Covers}
 use Rattle.rs_statement.specs.declared.evaluating.Evaluating.{Evaluating}
 use Rattle.rs_statement.specs.declared.evaluating.Evaluating.TheVariants.{Plainly, Planned}
 use Rattle.rs_statement.specs.declared.fault.Fault.{Fault}
-use Rattle.rs_statement.specs.declared.fault.Fault.TheVariants.{Session}
-use Rattle.rs_statement.specs.declared.fault.SessionFault.{SessionFault}
-use Rattle.rs_statement.specs.declared.fault.SessionFault.TheVariants.{NameTaken, Unknown, Full}
+use Rattle.rs_statement.specs.Named.{named_in, room_for, without}
 use Rattle.rs_statement.specs.Lines.{rank_lines}
 use Rattle.rs_statement.specs.Planned.{asks_from, next_asks, plan_for}
 use Rattle.rs_outside.specs.Files.{Finds}
@@ -56,27 +51,13 @@ pub record State : Type 0 where
 abbrev pub nothing : State
 nothing = record { catalogue = empty; cursors = [] }
 
--- the most cursors that may be open at once
-abbrev pub most_cursors : ℕ
-most_cursors = 64
-
--- why no cursor can be opened
-abbrev pub room_why : RoomFault → SessionFault
-room_why room.NameTaken = NameTaken
-room_why room.Full = Full
-
-abbrev pub or_session_fault : List ℕ → Result (Unit {0}) RoomFault → Result (Unit {0}) Fault
-or_session_fault name (Ok room) = Ok room
-or_session_fault name (Err why) = Err (Session (room_why why) name)
-
 -- whether a cursor of this name can be opened: not where one of the name is open, and not where there are as many as may be
 abbrev pub room_for_cursor : List ℕ → List OpenCursor → Result (Unit {0}) Fault
-room_for_cursor name cursors = or_session_fault name (room_in name most_cursors (map (λ (c : OpenCursor). c.name) cursors))
+room_for_cursor name cursors = room_for name (map (λ (c : OpenCursor). c.name) cursors)
 
 -- the open cursor of this name; where there is none, the run ends
 abbrev pub cursor_named : List ℕ → List OpenCursor → Result OpenCursor Fault
-cursor_named name [] = Err (Session Unknown name)
-cursor_named name (cursor ∷ rest) = if bytes_eq cursor.name name then Ok cursor else cursor_named name rest
+cursor_named name cursors = named_in (λ (c : OpenCursor). c.name) (λ (c : OpenCursor). c) name cursors
 
 -- a cursor is opened, and wasn't asked yet
 abbrev pub with_cursor : List ℕ → Source → State → State
@@ -91,7 +72,7 @@ with_asks name asks state = record state { cursors = map (asked_more name asks) 
 
 -- the cursor of this name is open no more; all others stay as they are
 abbrev pub without_cursor : List ℕ → State → State
-without_cursor name state = record state { cursors = filter (λ (c : OpenCursor). not (bytes_eq c.name name)) state.cursors }
+without_cursor name state = record state { cursors = without (λ (c : OpenCursor). c.name) name state.cursors }
 
 -- the query of a DECLARE: its names and types count first, and then whether a cursor of the name can be opened
 abbrev pub declared_query : State → Name → syntax.Query → Result Query Fault

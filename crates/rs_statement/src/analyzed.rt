@@ -6,18 +6,16 @@ ghost use Rattle.rs_syntax.specs.Written.{IsWrittenQuery};
 ghost use Rattle.rs_expr.specs.Scoring.{Answering};
 ghost use Rattle.rs_catalog.specs.Catalog.{CatalogDef};
 ghost use Rattle.rs_query.specs.Tops.{HasTops};
-ghost use Rattle.rs_query.specs.WellFormed.{IsQuery};
 ghost use Rattle.rs_bind.specs.Queries.{bound_query};
 ghost use Rattle.rs_plan.specs.Counts.{counts_of_plan};
-ghost use Rattle.rs_plan.specs.Plans.{IsPlan};
 ghost use Rattle.rs_plan.specs.Shapes.{tree_of};
 ghost use Rattle.rs_sample.specs.Kept.{cards_of};
-ghost use Rattle.rs_enum.specs.QueryCards.{AreCards};
 ghost use Rattle.rs_enum.specs.Texts.{text_of};
 ghost use Rattle.rs_exec.specs.Asking.{world_of};
 ghost use Rattle.rs_exec.specs.Cursors.{StandsFor, asks_of, plan_of};
 ghost use Rattle.rs_catalog.specs.IndexesHold.{IndexesHold};
 ghost use Rattle.rs_statement.specs.Parts.Asks.{AskedForAll, AskedOnce, StandsSomewhere, call_step, left_of, most_asks, without_value};
+ghost use Rattle.rs_statement.specs.Parts.PlannedQuery.{IsPlanned};
 ghost use Rattle.rs_statement.specs.Parts.Steps.{Stepped};
 ghost use Rattle.rs_statement.specs.Planned.{asks_in_all, planned_step};
 ghost use Rattle.rs_events.specs.Sequence.{silent};
@@ -26,17 +24,16 @@ ghost use Rattle.rs_events.specs.Environment.{Environment};
 
 use crate::fault::Fault;
 use crate::planned::ask_fault;
-use crate::planning::{choose_plan, take_sample};
+use crate::planned_query::PlannedQuery;
 use crate::sampling::Sampling;
 use rs_bind::bind;
 use rs_catalog::{Catalog, Snapshot};
-use rs_enum::{cards_decide_the_text, explain};
+use rs_enum::explain;
 use rs_events::{Host, put_text};
 use rs_exec::Cursor;
 use rs_expr::Scorer;
-use rs_plan::{Counts, Plan};
-use rs_query::{Query, worths_are_within_tops};
-use rs_sample::Cards;
+use rs_plan::Counts;
+use rs_query::worths_are_within_tops;
 use rs_syntax::Select;
 use rs_value::Memory;
 use std::alloc::Global;
@@ -57,26 +54,8 @@ pub fn analyze_planned<W: Host>(
         catalog.now result (W.state host.old) (W.state host.new) }
 {
     let query = bind(alloc, catalog, select)?;
-    let cards = match take_sample(alloc, sampling, catalog, &query, host.scorer()) {
-        Ok(cards) => cards,
-        Err(fault) => {
-            drop(query);
-            return Err(fault);
-        }
-    };
-    let plan = match choose_plan(alloc, catalog, &query, &cards) {
-        Ok(plan) => plan,
-        Err(Memory) => {
-            drop(cards);
-            drop(query);
-            return Err(Fault::Memory);
-        }
-    };
-    cards_decide_the_text();
-    let told = asked_text(alloc, catalog, query, &cards, &plan, host.scorer());
-    drop(plan);
-    drop(cards);
-    let text = told?;
+    let planned = PlannedQuery::make(alloc, sampling, catalog, query, host.scorer())?;
+    let text = asked_text(alloc, catalog, planned, host.scorer())?;
     put_text(&text, host.out())
 }
 
@@ -84,50 +63,63 @@ pub fn analyze_planned<W: Host>(
 fn asked_text<S: Scorer>(
     alloc: Global,
     catalog: &Catalog,
-    query: Query,
-    cards: &Cards,
-    plan: &Plan,
+    planned: PlannedQuery,
     scorer: &mut S,
 ) -> Result<Vec<u8>, Fault>
-    requires query { IsQuery catalog.now query }
-    requires tops { HasTops catalog.now query }
-    requires cards { AreCards query (cards_of cards.now) }
-    requires plan { IsPlan catalog.now query (tree_of plan.now) }
+    requires whole { IsPlanned catalog.now planned }
+    requires tops { HasTops catalog.now planned.query }
     requires held { IndexesHold (S.state scorer.old).answer catalog.now }
-    ensures asks { (beside : Environment) → Stepped (λ step. step ≡ silent (planned_step (world_of catalog.now (S.state scorer.old).answer query) (tree_of plan.now)))
+    ensures asks { (beside : Environment) → Stepped (λ step. step ≡ silent (planned_step (world_of catalog.now (S.state scorer.old).answer planned.query) (tree_of planned.plan)))
         catalog.now (without_value result) (record beside { scorer = S.state scorer.old }) (record beside { scorer = S.state scorer.new }) }
-    ensures text { IfOk result (λ text. text.items ≡ text_of catalog.now query (cards_of cards.now) (tree_of plan.now)
-        (Some (counts_of_plan (world_of catalog.now (S.state scorer.old).answer query) (tree_of plan.now)
-        (asks_in_all (world_of catalog.now (S.state scorer.old).answer query) (tree_of plan.now))))) }
+    ensures text { IfOk result (λ text. text.items ≡ text_of catalog.now planned.query (cards_of planned.cards) (tree_of planned.plan)
+        (Some (counts_of_plan (world_of catalog.now (S.state scorer.old).answer planned.query) (tree_of planned.plan)
+        (asks_in_all (world_of catalog.now (S.state scorer.old).answer planned.query) (tree_of planned.plan))))) }
 {
     worths_are_within_tops();
-    let mut cursor = Cursor::start(alloc, &Snapshot::current(catalog), query, plan)?;
-    let told = told_text(alloc, catalog, &mut cursor, cards, plan, scorer);
+    let current = Snapshot::current(catalog);
+    // What is owned is let go of by name at each end: else it takes long to prove.
+    let PlannedQuery { query, cards, plan } = planned;
+    let mut cursor = match Cursor::start(alloc, &current, query, &plan) {
+        Ok(cursor) => cursor,
+        Err(Memory) => {
+            drop(plan);
+            drop(cards);
+            return Err(Fault::Memory);
+        }
+    };
+    let counts = match asked_counts(alloc, &current, &mut cursor, scorer) {
+        Ok(counts) => counts,
+        Err(fault) => {
+            drop(cursor);
+            drop(plan);
+            drop(cards);
+            return Err(fault);
+        }
+    };
+    let told = explain(alloc, catalog, cursor.query(), &cards, &plan, Some(&counts));
+    drop(counts);
     drop(cursor);
-    told
+    drop(plan);
+    drop(cards);
+    Ok(told?)
 }
 
-/// Asks for the rows of a cursor that are left. Answers the text of its plan, with what each node has done.
-fn told_text<S: Scorer>(
+/// Asks for the rows of a cursor that are left. Answers what each node of its plan has done by then.
+fn asked_counts<S: Scorer>(
     alloc: Global,
-    catalog: &Catalog,
+    catalog: &Snapshot<'_>,
     cursor: &mut Cursor,
-    cards: &Cards,
-    plan: &Plan,
     scorer: &mut S,
-) -> Result<Vec<u8>, Fault>
-    requires stands { StandsFor catalog.now (S.state scorer.old).answer cursor.old }
-    requires cards { AreCards cursor.old.query (cards_of cards.now) }
-    requires plan { tree_of plan.now ≡ plan_of cursor.old }
+) -> Result<Vec<Counts>, Fault>
+    requires { StandsFor catalog.now (S.state scorer.old).answer cursor.old }
     ensures asks { (beside : Environment) → Stepped (λ step. step ≡ silent (left_of catalog.now (S.state scorer.old).answer cursor.old)) catalog.now (without_value result)
         (record beside { scorer = S.state scorer.old }) (record beside { scorer = S.state scorer.new }) }
-    ensures text { IfOk result (λ text. text.items ≡ text_of catalog.now cursor.old.query (cards_of cards.now) (plan_of cursor.old)
-        (Some (counts_of_plan (world_of catalog.now (S.state scorer.old).answer cursor.old.query) (plan_of cursor.old)
-        (most_asks catalog.now (S.state scorer.old).answer cursor.old)))) }
+    ensures counts { IfOk result (λ counts. counts.items ≡ counts_of_plan (world_of catalog.now (S.state scorer.old).answer cursor.old.query) (plan_of cursor.old)
+        (most_asks catalog.now (S.state scorer.old).answer cursor.old)) }
+    ensures query { IfOk result (λ _. cursor.new.query ≡ cursor.old.query) }
 {
-    ask_all(&Snapshot::current(catalog), cursor, scorer)?;
-    let counts = all_counts(alloc, cursor)?;
-    Ok(explain(alloc, catalog, cursor.query(), cards, plan, Some(&counts))?)
+    ask_all(catalog, cursor, scorer)?;
+    Ok(all_counts(alloc, cursor)?)
 }
 
 /// Asks for the rows of a cursor that are left, and drops them.

@@ -8,14 +8,12 @@ ghost use Rattle.rs_statement.specs.Parts.Steps.{Stepped};
 ghost use Rattle.rs_statement.specs.Statements.{explained_step, or_bind_fault, refused_or};
 
 use crate::fault::Fault;
-use crate::planning::{choose_plan, take_sample};
+use crate::planned_query::PlannedQuery;
 use crate::sampling::Sampling;
 use rs_bind::bind;
 use rs_catalog::Catalog;
-use rs_enum::{cards_decide_the_text, explain};
 use rs_events::{Host, put_text};
 use rs_syntax::Select;
-use rs_value::Memory;
 use std::alloc::Global;
 
 /// Puts the text of the least plan of a query, once its sample was taken. No row is asked for.
@@ -32,26 +30,9 @@ pub fn explain_planned<W: Host>(
         catalog.now result (W.state host.old) (W.state host.new) }
 {
     let query = bind(alloc, catalog, select)?;
-    let cards = match take_sample(alloc, sampling, catalog, &query, host.scorer()) {
-        Ok(cards) => cards,
-        Err(fault) => {
-            drop(query);
-            return Err(fault);
-        }
-    };
-    let plan = match choose_plan(alloc, catalog, &query, &cards) {
-        Ok(plan) => plan,
-        Err(Memory) => {
-            drop(cards);
-            drop(query);
-            return Err(Fault::Memory);
-        }
-    };
-    cards_decide_the_text();
-    let told = explain(alloc, catalog, &query, &cards, &plan, None);
-    drop(plan);
-    drop(cards);
-    drop(query);
+    let planned = PlannedQuery::make(alloc, sampling, catalog, query, host.scorer())?;
+    let told = planned.text(alloc, catalog);
+    drop(planned);
     let text = told?;
     put_text(&text, host.out())
 }

@@ -14,7 +14,9 @@ mod fault;
 mod file;
 mod insert;
 mod laws;
+mod named;
 mod planned;
+mod planned_query;
 mod planning;
 mod put;
 mod query;
@@ -32,6 +34,7 @@ pub use laws::{
     guesses_call_nobody, queries_put_all_lines_of_their_answers,
     queries_put_the_first_lines_of_their_answers,
 };
+pub use named::Named;
 pub use put::put_rows;
 pub use query::query_fault;
 pub use sampling::Sampling;

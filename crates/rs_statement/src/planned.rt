@@ -5,6 +5,8 @@ ghost use Rattle.rs_syntax.specs.Syntax.{query_of};
 ghost use Rattle.rs_syntax.specs.Written.{IsWrittenQuery};
 ghost use Rattle.rs_expr.specs.Scoring.{Answering};
 ghost use Rattle.rs_catalog.specs.Catalog.{CatalogDef};
+ghost use Rattle.rs_query.specs.Tops.{HasTops};
+ghost use Rattle.rs_query.specs.WellFormed.{IsQuery};
 ghost use Rattle.rs_bind.specs.Queries.{bound_query};
 ghost use Rattle.rs_plan.specs.Counts.{gave_of};
 ghost use Rattle.rs_exec.specs.Asking.{world_of};
@@ -12,13 +14,15 @@ ghost use Rattle.rs_exec.specs.Cursors.{IsOver, StandsFor, asks_after, asks_of, 
 ghost use Rattle.rs_catalog.specs.IndexesHold.{IndexesHold};
 ghost use Rattle.rs_statement.specs.Parts.Asks.{IsAt, NamesPredicate, StandsSomewhere, call_step, left_of, without_value};
 ghost use Rattle.rs_statement.specs.Parts.Steps.{Stepped};
-ghost use Rattle.rs_statement.specs.Planned.{ask_fault};
+ghost use Rattle.rs_statement.specs.Planned.{ask_fault, plan_for};
+ghost use Rattle.rs_statement.specs.Sampled.{sample_step};
+ghost use Rattle.rs_events.specs.Environment.{Environment};
 ghost use Rattle.rs_events.specs.Sequence.{then_step};
 ghost use Rattle.rs_statement.specs.Statements.{or_bind_fault, query_step, refused_or};
 ghost use Rattle.rs_statement.specs.declared.evaluating.Evaluating.TheVariants.{Planned};
 
 use crate::fault::Fault;
-use crate::planning::start_planned;
+use crate::planned_query::PlannedQuery;
 use crate::put::put_row;
 use crate::query::{bad_score, failed_call};
 use crate::sampling::Sampling;
@@ -26,7 +30,9 @@ use rs_bind::bind;
 use rs_catalog::{Catalog, Snapshot};
 use rs_events::Host;
 use rs_exec::{Cursor, ExecFault};
+use rs_expr::Scorer;
 use rs_lines::RowLines;
+use rs_query::Query;
 use rs_syntax::Select;
 use std::alloc::Global;
 
@@ -50,6 +56,26 @@ pub fn run_planned<W: Host>(
     let put = put_all(alloc, &Snapshot::current(catalog), &mut cursor, host);
     drop(cursor);
     put
+}
+
+/// A cursor over the least plan of a query, which its sample decides. No row is asked for yet.
+pub fn start_planned<S: Scorer>(
+    alloc: Global,
+    sampling: Sampling,
+    catalog: &Catalog,
+    query: Query,
+    scorer: &mut S,
+) -> Result<Cursor, Fault>
+    requires formed { IsQuery catalog.now query }
+    requires tops { HasTops catalog.now query }
+    requires held { IndexesHold (S.state scorer.old).answer catalog.now }
+    ensures calls { (beside : Environment) → Stepped (λ step. step ≡ sample_step catalog.now sampling query) catalog.now (without_value result)
+        (record beside { scorer = S.state scorer.old }) (record beside { scorer = S.state scorer.new }) }
+    ensures starts { IfOk result (IsAt query (plan_for (S.state scorer.old).answer catalog.now sampling query) 0) }
+    ensures stands { IfOk result (StandsFor catalog.now (S.state scorer.old).answer) }
+{
+    let planned = PlannedQuery::make(alloc, sampling, catalog, query, scorer)?;
+    Ok(planned.start(alloc, catalog)?)
 }
 
 /// Puts the rows of a cursor that are left, each before the next one is asked for.

@@ -2,19 +2,17 @@
 
 ghost use Rattle.std.specs.Prelude.{◌≡◌, ◌⊎◌, IfOk, List};
 ghost use Rattle.rs_expr.specs.Scoring.{Answering};
-ghost use Rattle.rs_query.specs.Tops.{HasTops};
 ghost use Rattle.rs_query.specs.WellFormed.{IsQuery};
 ghost use Rattle.rs_plan.specs.Plans.{IsPlan};
 ghost use Rattle.rs_plan.specs.Shapes.{tree_of};
 ghost use Rattle.rs_sample.specs.Cards.{AllSayTheSame, BlockCards};
 ghost use Rattle.rs_sample.specs.Kept.{cards_of};
+ghost use Rattle.rs_sample.specs.Sampling.{NamesPredicate};
 ghost use Rattle.rs_enum.specs.Least.{least_plan};
 ghost use Rattle.rs_enum.specs.QueryCards.{AreCards};
-ghost use Rattle.rs_exec.specs.Cursors.{StandsFor};
-ghost use Rattle.rs_catalog.specs.IndexesHold.{IndexesHold};
-ghost use Rattle.rs_statement.specs.Parts.Asks.{IsAt, NamesSampled, without_value};
+ghost use Rattle.rs_statement.specs.Parts.Asks.{without_value};
 ghost use Rattle.rs_statement.specs.Parts.Steps.{Stepped};
-ghost use Rattle.rs_statement.specs.Planned.{cards_for, plan_for};
+ghost use Rattle.rs_statement.specs.Planned.{cards_for};
 ghost use Rattle.rs_statement.specs.Sampled.{sample_fault, sample_step};
 ghost use Rattle.rs_statement.specs.declared.sampling.Sampling.TheVariants.{ByGuesses, ByScores};
 ghost use Rattle.rs_events.specs.Environment.{Environment};
@@ -22,14 +20,13 @@ ghost use Rattle.rs_events.specs.Environment.{Environment};
 use crate::fault::Fault;
 use crate::query::failed_call;
 use crate::sampling::Sampling;
-use rs_catalog::{Catalog, Snapshot};
+use rs_catalog::Catalog;
 use rs_enum::{
     best, cards_decide_the_plan, sampled_cards_are_those_of_the_query, there_is_one_least_plan,
 };
-use rs_exec::Cursor;
 use rs_expr::{FormulaScorer, Scorer};
 use rs_plan::Plan;
-use rs_query::{Query, worths_are_within_tops};
+use rs_query::Query;
 use rs_sample::{Cards, SampleFault};
 use rs_value::Memory;
 use std::alloc::Global;
@@ -99,7 +96,7 @@ fn take_by_guesses(
 
 /// The fault of a query that has no sample, with the name of the predicate.
 fn sample_fault(catalog: &Catalog, why: SampleFault) -> Fault
-    requires { NamesSampled catalog.now why }
+    requires { NamesPredicate catalog.now why }
     ensures { (result ≡ sample_fault catalog.now why) ⊎ (result ≡ Fault.Memory) }
 {
     match why {
@@ -124,43 +121,4 @@ pub fn choose_plan(
     there_is_one_least_plan();
     cards_decide_the_plan();
     best(alloc, catalog, query, cards)
-}
-
-/// A cursor over the least plan of a query, which its sample decides. No row is asked for yet.
-pub fn start_planned<S: Scorer>(
-    alloc: Global,
-    sampling: Sampling,
-    catalog: &Catalog,
-    query: Query,
-    scorer: &mut S,
-) -> Result<Cursor, Fault>
-    requires formed { IsQuery catalog.now query }
-    requires tops { HasTops catalog.now query }
-    requires held { IndexesHold (S.state scorer.old).answer catalog.now }
-    ensures calls { (beside : Environment) → Stepped (λ step. step ≡ sample_step catalog.now sampling query) catalog.now (without_value result)
-        (record beside { scorer = S.state scorer.old }) (record beside { scorer = S.state scorer.new }) }
-    ensures starts { IfOk result (IsAt query (plan_for (S.state scorer.old).answer catalog.now sampling query) 0) }
-    ensures stands { IfOk result (StandsFor catalog.now (S.state scorer.old).answer) }
-{
-    // What is owned is let go of by name at each end: else it takes long to prove.
-    let cards = match take_sample(alloc, sampling, catalog, &query, scorer) {
-        Ok(cards) => cards,
-        Err(fault) => {
-            drop(query);
-            return Err(fault);
-        }
-    };
-    let chosen = choose_plan(alloc, catalog, &query, &cards);
-    drop(cards);
-    let plan = match chosen {
-        Ok(plan) => plan,
-        Err(Memory) => {
-            drop(query);
-            return Err(Fault::Memory);
-        }
-    };
-    worths_are_within_tops();
-    let started = Cursor::start(alloc, &Snapshot::current(catalog), query, &plan);
-    drop(plan);
-    Ok(started?)
 }

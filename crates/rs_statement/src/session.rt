@@ -1,8 +1,8 @@
 //! The cursors of a script: DECLARE, FETCH and CLOSE.
 
-ghost use Rattle.std.specs.Prelude.{◌≡◌, ◌≤◌, ◌⊎◌, ◌+◌, ◌++◌, ◌∷◌, [], IfOk, OnErr, OnOk, drop, false, length, suc, take, true};
+ghost use Rattle.std.specs.Prelude.{◌≡◌, ◌≤◌, ◌⊎◌, ◌+◌, [], IfOk, drop, false, length, suc, take};
 ghost use Rattle.std.specs.List.{AllByRecursion};
-ghost use Rattle.indexmap.specs.IndexMap.{keys};
+ghost use Rattle.std.specs.Map.{keys_of};
 ghost use Rattle.rs_value.specs.Answer.{Gives};
 ghost use Rattle.rs_syntax.specs.Syntax.{query_of};
 ghost use Rattle.rs_syntax.specs.Written.{IsWrittenQuery};
@@ -18,18 +18,17 @@ ghost use Rattle.rs_statement.specs.Lines.{rank_lines};
 ghost use Rattle.rs_statement.specs.Parts.Session.{CanAllBeAsked, CanBeAsked, IsAskedMore, asked_of, cursors_of, held_in, next_of, next_of_cursor, rows_step, seen_by, source_of, state_of, wanted_step};
 ghost use Rattle.rs_statement.specs.Parts.Steps.{Leaves, Ran, Stepped};
 ghost use Rattle.rs_events.specs.Run.{lines_run};
-ghost use Rattle.rs_statement.specs.Session.{IsCursorOf, close_outcome, declare_step, declared_query, fetch_step, fetched_from, next_rows, opened_step, room_for_cursor};
+ghost use Rattle.rs_statement.specs.Session.{IsCursorOf, close_outcome, declare_step, declared_query, fetch_step, fetched_from, next_rows, opened_step};
 ghost use Rattle.rs_statement.specs.Statements.{refused_or};
 ghost use Rattle.rs_events.specs.Environment.{Environment};
 
 use crate::evaluating::Evaluating;
 use crate::fault::{Fault, SessionFault};
-use crate::planned::put_next;
-use crate::planning::start_planned;
+use crate::named::Named;
+use crate::planned::{put_next, start_planned};
 use crate::put::put_rows;
 use crate::query::query_fault;
 use crate::sampling::Sampling;
-use indexmap::IndexMap;
 use rs_bind::{bind, bind_count};
 use rs_catalog::{Catalog, Snapshot};
 use rs_events::Host;
@@ -45,9 +44,6 @@ use rs_syntax::{Name, Select};
 use rs_value::{Memory, Text};
 use std::alloc::Global;
 
-/// The most cursors that may be open at once.
-const MOST_CURSORS: usize = 64;
-
 /// What gives the rows of an open cursor.
 #[derive(Drop)]
 enum CursorRows {
@@ -60,7 +56,7 @@ enum CursorRows {
 /// The open cursors of a script by name, in the order of their DECLARE.
 #[derive(Drop)]
 pub struct Session {
-    cursors: IndexMap<Text, CursorRows>,
+    cursors: Named<CursorRows>,
 }
 
 impl Session {
@@ -69,7 +65,7 @@ impl Session {
         ensures { held_in result ≡ [] }
     {
         Session {
-            cursors: IndexMap::new(alloc),
+            cursors: Named::new(alloc),
         }
     }
 }
@@ -146,7 +142,9 @@ fn declare_ready<S: Scorer>(
         Ok(rows) => rows,
         Err(why) => return Err(query_fault(catalog, why)),
     };
-    open(session, &name.text, CursorRows::Ready { rows, given: 0 })?;
+    session
+        .cursors
+        .add(&name.text, CursorRows::Ready { rows, given: 0 })?;
     Ok(())
 }
 
@@ -173,7 +171,9 @@ fn declare_planned<S: Scorer>(
     let query = declared_query(alloc, name, select, catalog, session)?;
     let cursor = start_planned(alloc, sampling, catalog, query, scorer)?;
     match catalog.sizes(alloc) {
-        Ok(sizes) => open(session, &name.text, CursorRows::Asked { cursor, sizes })?,
+        Ok(sizes) => session
+            .cursors
+            .add(&name.text, CursorRows::Asked { cursor, sizes })?,
         Err(Memory) => {
             drop(cursor);
             return Err(Fault::Memory);
@@ -194,25 +194,11 @@ fn declared_query(
     ensures gives { Gives Fault.Memory (declared_query (state_of catalog.now (held_in session.now)) name.now (query_of select.now)) result }
     ensures formed { IfOk result (IsQuery catalog.now) }
     ensures tops { IfOk result (HasTops catalog.now) }
-    ensures free { IfOk result (λ _. has_name name.now.text (keys session.now.cursors) ≡ false) }
+    ensures free { IfOk result (λ _. has_name name.now.text (keys_of (held_in session.now)) ≡ false) }
 {
     let query = bind(alloc, catalog, select)?;
-    room(session, &name.text)?;
+    session.cursors.room(&name.text)?;
     Ok(query)
-}
-
-/// Whether a cursor of this name can be opened.
-fn room(session: &Session, name: &Text) -> Result<(), Fault>
-    ensures gives { Gives Fault.Memory (room_for_cursor name.now (cursors_of (held_in session.now))) result }
-    ensures free { IfOk result (λ _. has_name name.now (keys session.now.cursors) ≡ false) }
-{
-    if session.cursors.contains_key(name) {
-        return Err(session_fault(SessionFault::NameTaken, name));
-    }
-    if session.cursors.len() == MOST_CURSORS {
-        return Err(session_fault(SessionFault::Full, name));
-    }
-    Ok(())
 }
 
 /// The fault of a statement that can't have the cursor of this name.
@@ -222,40 +208,6 @@ pub fn session_fault(why: SessionFault, name: &Text) -> Fault
     match name.copy() {
         Ok(name) => Fault::Session { why, name },
         Err(_) => Fault::Memory,
-    }
-}
-
-/// Makes a cursor the last one. Where there is no memory, none is opened.
-fn open(session: &mut Session, name: &Text, held: CursorRows) -> Result<(), Memory>
-    requires { has_name name.now (keys session.old.cursors) ≡ false }
-    ensures ok { OnOk result (held_in session.new ≡ held_in session.old ++ (name.now, held) ∷ []) }
-    ensures err { OnErr result (held_in session.new ≡ held_in session.old) }
-{
-    // Each cursor that is let go of is handed to `drop`: to let go of it here, at each end, takes minutes to prove.
-    match name.copy() {
-        Ok(name) => insert(session, name, held),
-        Err(Memory) => {
-            drop(held);
-            Err(Memory)
-        }
-    }
-}
-
-/// Makes a cursor that has this name the last one. Where there is no memory, none is opened.
-fn insert(session: &mut Session, name: Text, held: CursorRows) -> Result<(), Memory>
-    requires { has_name name (keys session.old.cursors) ≡ false }
-    ensures ok { OnOk result (held_in session.new ≡ held_in session.old ++ (name, held) ∷ []) }
-    ensures err { OnErr result (held_in session.new ≡ held_in session.old) }
-{
-    match session.cursors.insert(name, held) {
-        Ok(none) => {
-            drop(none);
-            Ok(())
-        }
-        Err(failed) => {
-            drop(failed);
-            Err(Memory)
-        }
     }
 }
 
@@ -288,7 +240,7 @@ pub fn fetch<W: Host>(
     ensures asked { IfOk result (λ _. CanAllBeAsked (W.state host.old).scorer.answer catalog.now (held_in session.new)) }
 {
     let count = bind_count(count.0, count.1)?;
-    match session.cursors.get_mut(&name.text) {
+    match session.cursors.named_mut(&name.text) {
         Some(held) => fetch_rows(alloc, count, catalog, held, host),
         None => Err(session_fault(SessionFault::Unknown, &name.text)),
     }
@@ -389,11 +341,5 @@ pub fn close(name: &Name, session: &mut Session) -> Result<(), Fault>
     ensures asked { (answer : Answering) (catalogue : CatalogDef) → CanAllBeAsked answer catalogue (held_in session.old)
         → CanAllBeAsked answer catalogue (held_in session.new) }
 {
-    match session.cursors.shift_remove(&name.text) {
-        Some(held) => {
-            drop(held);
-            Ok(())
-        }
-        None => Err(session_fault(SessionFault::Unknown, &name.text)),
-    }
+    session.cursors.remove(&name.text)
 }

@@ -10,7 +10,7 @@ use Rattle.rs_cert.specs.declared.cert.Cert.{Cert}
 use Rattle.rs_cert.specs.declared.cert.CertSide.{CertSide}
 use Rattle.rs_cert.specs.Records.{most_rows}
 use Rattle.rs_cert.specs.Written.{written}
-use Rattle.rs_cert_join.specs.Certs.{cert_of, cert_side, numbers_in}
+use Rattle.rs_words.specs.Certs.{cert_of, cert_side, numbers_in}
 use Rattle.rs_feed.specs.declared.feed_row.FeedRow.{FeedRow}
 use Rattle.rs_table_feed.specs.TableFeeds.{TableFeedState}
 use Rattle.rs_feed_join.specs.declared.fault.JoinFault.{JoinFault}

@@ -6,10 +6,10 @@ use Rattle.rs_outside.specs.Files.{FilesState, Finds, finds_in}
 use Rattle.rs_outside.specs.declared.files.FetchFault.TheVariants as fetch
 use Rattle.rs_cert.specs.declared.cert.Cert.{Cert}
 use Rattle.rs_cert.specs.declared.verdict.Verdict.{Verdict}
-use Rattle.rs_cert.specs.Csv.{records_of}
+use Rattle.rs_lines.specs.Records.{records_of}
 use Rattle.rs_cert.specs.Records.{AreRecordsOf, IsForm}
 use Rattle.rs_cert.specs.Verdicts.{IsVerdict}
-use Rattle.rs_cert.proofs.CsvFacts.{few-records}
+use Rattle.rs_lines.proofs.RecordsFacts.{few-records}
 use Rattle.rs_events.specs.Environment.{Environment}
 use Rattle.rs_events.specs.Events.{Fetch, calls}
 use Rattle.rs_events.specs.Fetching.{FetchesFile, fetched_bytes}

@@ -2,7 +2,7 @@
 use Rattle.std.proofs.Common.{ℕ, suc, ◌≡◌, ◌∙◌, ◌+◌, ◌<◌, ◌≤◌, ◌++◌, Bool, List, [], ◌∷◌, length, take, Option, Some, None, Result, Ok, Err, false, refl, sym, ap, subst, inl, inr, arith}
 use Rattle.std.proofs.lemmas.List.{length-append, map-append, take_all}
 use Rattle.rs_cert.specs.declared.cert.CertSide.{CertSide}
-use Rattle.rs_cert_join.specs.Certs.{AreGiven, cert_side, numbers_in}
+use Rattle.rs_words.specs.Certs.{AreGiven, cert_side, numbers_in}
 use Rattle.rs_feed.specs.declared.feed_row.FeedRow.{FeedRow}
 use Rattle.rs_feed.specs.Feeds.{FeedState}
 use Rattle.rs_feed_join.specs.declared.fault.JoinFault.{JoinFault}

@@ -18,8 +18,8 @@ use Rattle.rs_cert.specs.Written.{AreWritablePairs, AreWritableRows, IsWritableP
 use Rattle.rs_cert.proofs.AnswerFacts.{In-answers-back}
 use Rattle.rs_cert.proofs.PairFacts.{IsPair}
 use Rattle.rs_cert.proofs.WrittenFacts.{written-back}
-use Rattle.rs_cert_join.specs.Certs.{AreGiven, cert_of, cert_side, numbers_in}
-use Rattle.rs_cert_join.proofs.GoodFacts.{given-good}
+use Rattle.rs_words.specs.Certs.{AreGiven, cert_of, cert_side, numbers_in}
+use Rattle.rs_words.proofs.GivenGoodFacts.{given-good}
 use Rattle.rs_events.specs.Events.{puts}
 use Rattle.rs_events.specs.Fetching.{fetched_bytes}
 use Rattle.rs_events.specs.Run.{Run, lines_run}

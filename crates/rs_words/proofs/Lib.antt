@@ -1,6 +1,9 @@
 pub mod RunFacts
 pub mod CallFacts
 pub mod PuttingFacts
+pub mod SideFacts
+pub mod GivenFacts
+pub mod GivenGoodFacts
 pub mod GatheringFacts
 pub mod FeedingFacts
 pub mod DrawingFacts

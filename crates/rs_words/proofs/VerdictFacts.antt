@@ -10,7 +10,7 @@ use Rattle.rs_cert.specs.declared.fault.CertFault.{CertFault}
 use Rattle.rs_cert.specs.declared.fault.CertFault.TheVariants.{Form, Memory}
 use Rattle.rs_cert.specs.declared.verdict.Verdict.{Verdict}
 use Rattle.rs_cert.specs.declared.verdict.Verdict.TheVariants.{Yes, Order, Pairs, Short, Left, Right}
-use Rattle.rs_cert.specs.Csv.{Fields}
+use Rattle.rs_lines.specs.Records.{Fields}
 use Rattle.rs_cert.specs.Good.{FallsOnBothSides, HasEnough, HasFirstPairs, IsAtOrBefore, LeftIsReached, RightIsReached, answers_of, first_answers, no_pair_can_come}
 use Rattle.rs_cert.specs.Growing.{cert_of, new_cert, next_cert, or_form, with_records}
 use Rattle.rs_cert.specs.Pairs.{Answer, numbers_of}

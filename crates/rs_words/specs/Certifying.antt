@@ -5,7 +5,7 @@ use Rattle.rs_cert.specs.declared.cert.Cert.{Cert}
 use Rattle.rs_cert.specs.declared.cert.CertSide.{CertSide}
 use Rattle.rs_cert.specs.Records.{most_rows}
 use Rattle.rs_cert.specs.Written.{written}
-use Rattle.rs_cert_join.specs.Certs.{numbers_in}
+use Rattle.rs_words.specs.Certs.{numbers_in}
 use Rattle.rs_feed.specs.declared.feed_row.FeedRow.{FeedRow}
 use Rattle.rs_feed_join.specs.declared.fault.JoinFault.{JoinFault}
 use Rattle.rs_feed_join.specs.declared.feed_pair.FeedPair.{FeedPair}

@@ -4,7 +4,7 @@ use Rattle.std.specs.Fmt.{decimal}
 use Rattle.rs_cert.specs.declared.cert.Cert.{Cert}
 use Rattle.rs_cert.specs.declared.verdict.Verdict.{Verdict}
 use Rattle.rs_cert.specs.declared.verdict.Verdict.TheVariants.{Yes, Order, Pairs, Short, Left, Right}
-use Rattle.rs_cert.specs.Csv.{records_of}
+use Rattle.rs_lines.specs.Records.{records_of}
 use Rattle.rs_cert.specs.Records.{AreRecordsOf, IsForm}
 use Rattle.rs_cert.specs.Verdicts.{IsVerdict}
 use Rattle.rs_events.specs.Events.{Fetch}

@@ -1,7 +1,7 @@
 -- The first pairs of two feeds, gathered for a certificate, and how often both feeds are drawn for them.
 use Rattle.std.specs.Prelude.{ℕ, suc, ◌+◌, ◌≡◌, ◌<◌, ◌≤◌, ◌⊎◌, false, true, min, List, length, take, Option, Some, None, Result, Ok, Err, if◌then◌else◌}
 use Rattle.rs_cert.specs.declared.cert.CertSide.{CertSide}
-use Rattle.rs_cert_join.specs.Certs.{numbers_in}
+use Rattle.rs_words.specs.Certs.{numbers_in}
 use Rattle.rs_feed.specs.declared.feed_row.FeedRow.{FeedRow}
 use Rattle.rs_feed_join.specs.declared.fault.JoinFault.{JoinFault}
 use Rattle.rs_feed_join.specs.declared.fault.JoinFault.TheVariants.{Memory}

@@ -1,7 +1,7 @@
 -- Certificates to which the word `check` says yes.
 use Rattle.std.specs.Prelude.{ℕ, ◌≡◌, List, [], ◌∷◌, codes}
 use Rattle.rs_cert.specs.declared.cert.Cert.{Cert}
-use Rattle.rs_cert.specs.Csv.{records_of}
+use Rattle.rs_lines.specs.Records.{records_of}
 use Rattle.rs_cert.specs.Good.{IsGood}
 use Rattle.rs_cert.specs.Records.{AreRecordsOf}
 use Rattle.rs_events.specs.Events.{Fetch}

@@ -2,6 +2,7 @@ pub mod Faults
 pub mod FeedFiles
 pub mod Lines
 pub mod Putting
+pub mod Certs
 pub mod Gathering
 pub mod Joining
 pub mod TwoFeeds

@@ -1,6 +1,6 @@
 ghost use Rattle.std.specs.Prelude.{◌≡◌, ◌⊎◌, [], ◌∷◌, ◌++◌, List, Some, IfOk, MatchResult, false, is_ok, true, if◌then◌else◌};
 ghost use Rattle.rs_cert.specs.Good.{IsGood};
-ghost use Rattle.rs_cert_join.specs.Certs.{AreEnough, AreGiven, cert_of};
+ghost use Rattle.rs_words.specs.Certs.{AreEnough, AreGiven, cert_of};
 ghost use Rattle.rs_feed.specs.declared.feed_row.FeedRow.{FeedRow};
 ghost use Rattle.rs_feed_join.specs.Answers.{MayBe};
 ghost use Rattle.rs_feed_join.specs.Cuts.{HaveScores};
@@ -9,6 +9,7 @@ ghost use Rattle.rs_feed_join.specs.Sides.{IsDrawnOf};
 ghost use Rattle.rs_words.specs.Gathering.{GivesAll, StopsShort, draws_shown, last_call};
 ghost use Rattle.rs_words.specs.Joining.{JoinLeaves};
 
+use crate::cert_of_join::cert_of;
 use crate::joining::next_pair;
 use rs_cert::Cert;
 use rs_feed::Feed;
@@ -61,7 +62,7 @@ pub fn certify<L: Feed, R: Feed>(
     ensures whole { MatchResult result (λ _. join.new.broken ≡ false) (λ why. (why ≡ JoinFault.Memory) ⊎ (join.new.broken ≡ true)) }
 {
     let pairs = first_pairs(alloc, join, count, left, right)?;
-    Ok(rs_cert_join::cert_of(alloc, join, count, &pairs)?)
+    Ok(cert_of(alloc, join, count, &pairs)?)
 }
 
 /// Those pairs, by the numbers of their rows.

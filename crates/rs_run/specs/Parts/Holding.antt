@@ -8,12 +8,13 @@ use Rattle.rs_query.specs.declared.query.Query.{Query}
 use Rattle.rs_plain.specs.Results.{NamesCalled}
 use Rattle.rs_plain.specs.declared.fault.PlainFault.{PlainFault}
 use Rattle.rs_view.specs.Views.{Stands}
+use Rattle.rs_statement.specs.Parts.Named.{entries}
 use Rattle.rs_run.specs.declared.views.HeldViews.{HeldViews}
 use Rattle.rs_run.specs.Viewing.{HeldView, Kept}
 
 -- the held views in the order of their DECLARE
 abbrev pub views_in : HeldViews → List HeldView
-views_in held = held.views.entries
+views_in held = entries held.views
 
 -- the catalogue, and these views
 abbrev pub kept_of : CatalogDef → List HeldView → Kept

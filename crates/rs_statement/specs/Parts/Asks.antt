@@ -10,8 +10,6 @@ use Rattle.rs_exec.specs.Asking.{world_of}
 use Rattle.rs_exec.specs.Cursors.{CursorState, StandsFor, asks_after, asks_of, call_of, is_over, plan_of}
 use Rattle.rs_exec.specs.declared.fault.ExecFault.{ExecFault}
 use Rattle.rs_exec.specs.declared.fault.ExecFault.TheVariants.{BadScore, Broken, Memory, Probe}
-use Rattle.rs_sample.specs.declared.fault.SampleFault.{SampleFault}
-use Rattle.rs_sample.specs.declared.fault.SampleFault.TheVariants as sample
 use Rattle.rs_statement.specs.declared.fault.Fault.{Fault}
 use Rattle.rs_statement.specs.Planned.{ask_count, asked_step, asks_from, asks_in_all}
 use Rattle.rs_statement.specs.Steps.{Step}
@@ -64,8 +62,3 @@ NamesPredicate catalogue (BadScore predicate ids got max) = predicate < length c
 NamesPredicate catalogue (Probe predicate) = predicate < length catalogue.predicates
 NamesPredicate catalogue Memory = Unit {0}
 NamesPredicate catalogue Broken = Unit {0}
-
--- and so is the one that the fault of a sample names
-abbrev pub NamesSampled : CatalogDef → SampleFault → Type 0
-NamesSampled catalogue (sample.Probe predicate) = predicate < length catalogue.predicates
-NamesSampled catalogue sample.Memory = Unit {0}

@@ -11,6 +11,7 @@ use Rattle.rs_statement.specs.declared.session.CursorRows.{CursorRows}
 use Rattle.rs_statement.specs.declared.session.CursorRows.TheVariants as held
 use Rattle.rs_statement.specs.declared.session.Session.{Session}
 use Rattle.rs_statement.specs.Parts.Asks.{IsAt}
+use Rattle.rs_statement.specs.Parts.Named.{entries}
 use Rattle.rs_statement.specs.Planned.{asks_from, next_asks}
 use Rattle.rs_statement.specs.Lines.{rank_lines}
 use Rattle.rs_statement.specs.Steps.{Step}
@@ -19,7 +20,7 @@ use Rattle.rs_statement.specs.Session.{ByPlan, OpenCursor, Ready, Source, State,
 
 -- the open cursors by name, as a session keeps them
 abbrev pub held_in : Session → List (List ℕ × CursorRows)
-held_in session = session.cursors.entries
+held_in session = entries session.cursors
 
 -- what gives the rows of a cursor, and how often it was asked
 abbrev pub source_of : CursorRows → Source

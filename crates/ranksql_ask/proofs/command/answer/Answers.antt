@@ -4,7 +4,7 @@ use Rattle.std.specs.Prelude.{None, Option, Some, option_map}
 use Rattle.rs_outside.specs.Files.{FilesState, KeepsFiles}
 use Rattle.rs_run.specs.Naming.{Looks}
 use Rattle.rs_scores.specs.KnownFiles.{known_state}
-use Rattle.rs_run.specs.Status.{exit_status_of}
+use Rattle.rs_events.specs.Status.{exit_status_of}
 use Rattle.ranksql_ask.specs.AskFaults.{NoPredicate, ask_line, ask_status}
 use Rattle.ranksql_ask.specs.Endings.{RunsOnce, Tells}
 use Rattle.ranksql_ask.specs.Parts.Runners.{runner_of}

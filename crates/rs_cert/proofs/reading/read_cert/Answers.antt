@@ -1,4 +1,4 @@
-use Rattle.rs_cert.specs.Csv.{records_of}
+use Rattle.rs_lines.specs.Records.{records_of}
 use Rattle.rs_cert.proofs.CertFacts.{read-from}
 use Rattle.rs_cert.proofs.reading.read_cert.Goals as goal
 

@@ -1,5 +1,5 @@
 use Rattle.std.proofs.Common.{◌≡◌, ◌+◌, length}
-use Rattle.rs_cert.specs.Csv.{IsReading, records_left, records_of}
+use Rattle.rs_lines.specs.Records.{IsReading, records_left, records_of}
 use Rattle.rs_cert.specs.Growing.{cert_of, with_records}
 use Rattle.rs_cert.proofs.reading.read_records.Given as goal
 

@@ -140,7 +140,7 @@ build-returns-in_ok-child-in-Base t c =
     same_Some b.built.0 (tree_of c.in_ok-child-in-Base.child) (sym b.built.2 ∙ c.in_ok-child-in-Base.ensures) in
     if_ok-map (λ (plan : Plan). tree_of plan ≡ Distinct (tree_of c.in_ok-child-in-Base.child))
     (λ (plan : Plan). tree_at (length c.args.block.now.terms) (kept_plans c.args.block.now.terms c.args.places.now) c.args.of.entries c.args.of.terms ≡ Some (tree_of plan))
-    (λ plan same. b.is ∙ ap Some (b.built.1 ∙ ap Distinct child ∙ sym same)) c.distinct.result c.distinct.ensures
+    (λ plan same. b.is ∙ ap Some (b.built.1 ∙ ap Distinct child ∙ sym same)) c.without_duplicates.result c.without_duplicates.ensures
 
 -- a part of a mask is no larger
 part-small : (count terms mask : ℕ) → terms < 2 ^ count → bit_and terms mask < 2 ^ count

@@ -6,16 +6,11 @@ use Rattle.rs_run.proofs.RunFacts.{Runs-usage, Runs-words}
 use Rattle.rs_run.proofs.command.answer.Goals as goal
 
 pub returns-in-None-clause-does : goal.returns-in-None-clause-does
-returns-in-None-clause-does g c = λ beside.
-    Runs-usage (finds_in (g.F.Files.state c.args.files.now).contents) (g.S.Scorer.state c.args.scorer.now).answer c.args.words.now
-    (record beside { files = g.F.Files.state c.args.files.now; scorer = g.S.Scorer.state c.args.scorer.now; out = g.O.Sink.state c.args.out.now }) (sym c.in-None.ensures)
+returns-in-None-clause-does g c = Runs-usage (finds_in (g.F.Files.state c.args.host.now.files.now).contents) (g.S.Scorer.state c.args.host.now.scorer.now).answer c.args.words.now _ (sym c.in-None.ensures)
 
 pub returns-in-Some-clause-does : goal.returns-in-Some-clause-does
-returns-in-Some-clause-does g c = λ beside.
-    Runs-words (finds_in (g.F.Files.state c.args.files.now).contents) (g.S.Scorer.state c.args.scorer.now).answer c.args.words.now (form_of_command_line c.in-Some.command) c.obey.result
-    (record beside { files = g.F.Files.state c.args.files.now; scorer = g.S.Scorer.state c.args.scorer.now; out = g.O.Sink.state c.args.out.now })
-    (record beside { files = g.F.Files.state c.obey.new.files; scorer = g.S.Scorer.state c.obey.new.scorer; out = g.O.Sink.state c.obey.new.out })
-    (sym c.in-Some.ensures) (c.obey.ensures.does beside)
+returns-in-Some-clause-does g c =
+    Runs-words (finds_in (g.F.Files.state c.args.host.now.files.now).contents) (g.S.Scorer.state c.args.host.now.scorer.now).answer c.args.words.now (form_of_command_line c.in-Some.command) c.obey.result _ _ (sym c.in-Some.ensures) c.obey.ensures.does
 
 pub obey-requires : goal.obey-requires
 obey-requires g c = cert-count c.args.words.now (form_of_command_line c.in-Some.command) (sym c.in-Some.ensures)

@@ -19,17 +19,15 @@ interpret-done-requires-clause-dialect g c = record {
 }
 
 pub returns : goal.returns
-returns g c = λ beside.
-    let answer = (g.S.Scorer.state c.args.scorer.now).answer in
-    let finds = finds_in (g.F.Files.state c.args.files.now).contents in
-    let does = DoesInSession finds answer c.args.evaluating in
+returns g c =
+    let old = g.W.Host.state c.args.host.now in
+    let finds = finds_in old.files.contents in
+    let does = DoesInSession finds old.scorer.answer c.args.evaluating in
     let starts : state_of c.new.result (held_in c.new-2.result) ≡ nothing = λ i. record { catalogue = c.new.ensures i; cursors = cursors_of (c.new-2.ensures i) } in
     let runs = subst (λ (state : State). Runs statement_faults (ScriptRuns as_it_is finds (NumberedRun (λ number. does) (first_statement state)) c.args.name.now) c.interpret-done.result
-    (record beside { files = g.F.Files.state c.args.files.now; scorer = g.S.Scorer.state c.args.scorer.now; out = g.O.Sink.state c.args.out.now })
-    (record beside { files = g.F.Files.state c.interpret-done.new.files; scorer = g.S.Scorer.state c.interpret-done.new.scorer; out = g.O.Sink.state c.interpret-done.new.out }))
-    starts (c.interpret-done.ensures beside) in record {
+    old (g.W.Host.state c.interpret-done.new.host)) starts c.interpret-done.ensures in record {
       run = runs.run;
-      is = ScriptRuns-turn as_it_is finds (NumberedRun (λ number. does) (first_statement nothing)) (StatementsRun finds answer c.args.evaluating)
+      is = ScriptRuns-turn as_it_is finds (NumberedRun (λ number. does) (first_statement nothing)) (StatementsRun finds old.scorer.answer c.args.evaluating)
           (λ commands run is. RunOf-unnumbered does (first_statement nothing) commands run is) c.args.name.now runs.run runs.is;
       ran = runs.ran;
     }

@@ -18,10 +18,8 @@ interpret-done-requires-clause-dialect g c = record {
 }
 
 pub returns : goal.returns
-returns g c = λ beside.
-    let answer = (g.S.Scorer.state c.args.scorer.now).answer in
-    let finds = finds_in (g.F.Files.state c.args.files.now).contents in
-    subst (λ catalogue. Runs run_faults (ScriptRuns Statement finds (NumberedRun (DoesByScan finds answer) (first_statement catalogue)) c.args.name.now) c.interpret-done.result
-    (record beside { files = g.F.Files.state c.args.files.now; scorer = g.S.Scorer.state c.args.scorer.now; out = g.O.Sink.state c.args.out.now })
-    (record beside { files = g.F.Files.state c.interpret-done.new.files; scorer = g.S.Scorer.state c.interpret-done.new.scorer; out = g.O.Sink.state c.interpret-done.new.out }))
-    c.new-catalog.ensures (c.interpret-done.ensures beside)
+returns g c =
+    let old = g.W.Host.state c.args.host.now in
+    let finds = finds_in old.files.contents in
+    subst (λ catalogue. Runs run_faults (ScriptRuns Statement finds (NumberedRun (DoesByScan finds old.scorer.answer) (first_statement catalogue)) c.args.name.now) c.interpret-done.result
+    old (g.W.Host.state c.interpret-done.new.host)) c.new.ensures c.interpret-done.ensures

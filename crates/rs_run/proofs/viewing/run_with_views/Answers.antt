@@ -19,11 +19,9 @@ interpret-done-requires-clause-dialect g c = record {
 }
 
 pub returns : goal.returns
-returns g c = λ beside.
-    let answer = (g.S.Scorer.state c.args.scorer.now).answer in
-    let finds = finds_in (g.F.Files.state c.args.files.now).contents in
+returns g c =
+    let old = g.W.Host.state c.args.host.now in
+    let finds = finds_in old.files.contents in
     let starts : ◌≡◌ {A = Kept} (kept_of c.new.result (views_in c.new-2.result)) (record { catalogue = _; views = _ }) = λ i. kept_of (c.new.ensures i) (c.new-2.ensures i) in
-    subst (λ (kept : Kept). Runs run_faults (ScriptRuns Statement finds (NumberedRun (DoesByViews finds answer) (first_statement kept)) c.args.name.now) c.interpret-done.result
-    (record beside { files = g.F.Files.state c.args.files.now; scorer = g.S.Scorer.state c.args.scorer.now; out = g.O.Sink.state c.args.out.now })
-    (record beside { files = g.F.Files.state c.interpret-done.new.files; scorer = g.S.Scorer.state c.interpret-done.new.scorer; out = g.O.Sink.state c.interpret-done.new.out }))
-    starts (c.interpret-done.ensures beside)
+    subst (λ (kept : Kept). Runs run_faults (ScriptRuns Statement finds (NumberedRun (DoesByViews finds old.scorer.answer) (first_statement kept)) c.args.name.now) c.interpret-done.result
+    old (g.W.Host.state c.interpret-done.new.host)) starts c.interpret-done.ensures

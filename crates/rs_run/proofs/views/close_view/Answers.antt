@@ -1,35 +1,23 @@
-use Rattle.std.proofs.Common.{List, ◌∙◌, ap, inl, inr, subst, sym}
-use Rattle.std.specs.Prelude.{Err, Ok}
-use Rattle.std.specs.Map.{lookup}
-use Rattle.rs_statement.proofs.SessionFacts.{is_key}
-use Rattle.rs_run.specs.Parts.Holding.{AllStand, kept_of}
-use Rattle.rs_run.specs.Viewing.{HeldView, without_view}
-use Rattle.rs_run.proofs.HeldFacts.{stand-remove, view-none, view-some, views-remove}
+use Rattle.std.proofs.Common.{List, ℕ, ◌∙◌, ap, subst, sym}
+use Rattle.std.specs.Prelude.{Ok}
 use Rattle.rs_value.specs.Results.{◌>>=◌}
+use Rattle.rs_view.specs.Views.{Stands}
+use Rattle.rs_statement.specs.Named.{named_in}
+use Rattle.rs_statement.proofs.EntryFacts.{Leaves-found, each-without, named-then}
+use Rattle.rs_run.specs.Parts.Holding.{AllStand, kept_of}
+use Rattle.rs_run.specs.Viewing.{HeldView, close_outcome, without_view}
 use Rattle.rs_run.proofs.views.close_view.Goals as goal
 
-pub returns-in-Some-clause-closes : goal.returns-in-Some-clause-closes
-returns-in-Some-clause-closes c = λ catalogue.
-    let views = c.args.held.now.views.entries in
-    let name = c.args.name.now.text in
-    let left = c.shift_remove.new.self.entries in
-    let none = ap (lookup (is_key name)) (sym c.shift_remove.ensures.entries) ∙ c.in-Some.ensures.updates.1 in
-    ap (λ found. found >>= (λ view. Ok (without_view name (kept_of catalogue views)))) (view-some name views c.in-Some.view (sym c.in-Some.ensures.value))
-    ∙ ap (λ (rest : List HeldView). Ok (kept_of catalogue rest)) (sym (c.shift_remove.ensures.entries ∙ views-remove name views none))
+pub returns-clause-closes : goal.returns-clause-closes
+returns-clause-closes c = λ catalogue.
+    let views = c.args.held.now.views.held.entries in
+    let name = c.args.name.now in
+    let left = c.remove.new.self.held.entries in
+    Leaves-found (close_outcome (kept_of catalogue views) name) (kept_of catalogue left) _ c.remove.result
+    (named-then (λ (held : HeldView). held.0) (λ (held : HeldView). held.1) (λ (held : HeldView). tt) (Ok (without_view name.text (kept_of catalogue views))) name.text views
+    ∙ ap (λ (rest : List HeldView). named_in (λ (held : HeldView). held.0) (λ (held : HeldView). tt) name.text views >>= (λ done. Ok (kept_of catalogue rest))) (sym c.remove.ensures.left))
+    c.remove.ensures.gives
 
-pub returns-in-None-clause-closes : goal.returns-in-None-clause-closes
-returns-in-None-clause-closes c = λ catalogue.
-    let views = c.args.held.now.views.entries in
-    let name = c.args.name.now.text in
-    elim c.session_fault.ensures [
-      | inl e ↦ inr (ap (λ found. found >>= (λ view. Ok (without_view name (kept_of catalogue views)))) (view-none name views (sym c.in-None.ensures.value)) ∙ ap Err (sym e))
-      | inr e ↦ inl e
-    ]
-
-pub returns-in-Some-clause-stand : goal.returns-in-Some-clause-stand
-returns-in-Some-clause-stand c = λ answer catalogue all. subst (AllStand answer catalogue) (sym c.shift_remove.ensures.entries)
-    (stand-remove answer catalogue (is_key c.args.name.now.text) c.args.held.now.views.entries all)
-
-pub returns-in-None-clause-stand : goal.returns-in-None-clause-stand
-returns-in-None-clause-stand c = λ answer catalogue all. subst (AllStand answer catalogue) (sym c.shift_remove.ensures.entries)
-    (stand-remove answer catalogue (is_key c.args.name.now.text) c.args.held.now.views.entries all)
+pub returns-clause-stand : goal.returns-clause-stand
+returns-clause-stand c = λ answer catalogue all. subst (AllStand answer catalogue) (sym c.remove.ensures.left)
+    (each-without (Stands answer catalogue) c.args.name.now.text c.args.held.now.views.held.entries all)

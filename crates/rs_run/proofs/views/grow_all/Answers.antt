@@ -24,7 +24,7 @@ loop-index-init g c = record { asked = AllAsked-none (g.S.Scorer.state c.args.sc
 pub grow-requires : goal.grow-requires
 grow-requires g c =
     subst (λ answer. Stands answer c.args.catalog.now c.in-Some.view.now) (sym c.loop-index.invariant.asked.keeps.answer)
-    (stand-at (g.S.Scorer.state c.args.scorer.now).answer c.args.catalog.now c.loop-index.views.entries c.loop-index.index c.in-Some.view.now (sym c.in-Some.ensures.value) c.loop-index.invariant.stand)
+    (stand-at (g.S.Scorer.state c.args.scorer.now).answer c.args.catalog.now c.loop-index.views.held.entries c.loop-index.index c.in-Some.view.now (sym c.in-Some.ensures.value) c.loop-index.invariant.stand)
 
 pub returns-in_err-grow : goal.returns-in_err-grow
 returns-in_err-grow g c =
@@ -32,9 +32,9 @@ returns-in_err-grow g c =
     let middle = g.S.Scorer.state c.loop-index.scorer in
     let new = g.S.Scorer.state c.grow.new.scorer in
     let catalogue = c.args.catalog.now in
-    let views = c.args.views.now.entries in
+    let views = c.args.views.now.held.entries in
     let i = c.loop-index.index in
-    let at = held-at old.answer catalogue views i c.loop-index.views.entries c.in-Some.view.now c.loop-index.invariant.grown (sym c.in-Some.ensures.value) in
+    let at = held-at old.answer catalogue views i c.loop-index.views.held.entries c.in-Some.view.now c.loop-index.invariant.grown (sym c.in-Some.ensures.value) in
     let fault = c.in_err-grow.field-0.0 in record {
       grows = Failed-behind plain_faults Memory catalogue {A = ViewDef} {B = List HeldView} (flat_map (growth_questions catalogue) (take i views)) (growth_questions catalogue at.held)
           (flat_map (growth_questions catalogue) (drop (i + 1) views)) (flat_map (growth_questions catalogue) views) (λ (a : Answering). whole_view a catalogue at.held.1.query)
@@ -50,13 +50,13 @@ loop-index-preserved g c =
     let old = g.S.Scorer.state c.args.scorer.now in
     let middle = g.S.Scorer.state c.loop-index.scorer in
     let catalogue = c.args.catalog.now in
-    let views = c.args.views.now.entries in
+    let views = c.args.views.now.held.entries in
     let i = c.loop-index.index in
     let first = flat_map (growth_questions catalogue) (take i views) in
-    elim c.match-get_index_mut.branch [
+    elim c.match-at_mut.branch [
       | in-Some+in_ok-grow w ↦
           let new = g.S.Scorer.state w.grow.new.scorer in
-          let at = held-at old.answer catalogue views i c.loop-index.views.entries w.in-Some.view.now c.loop-index.invariant.grown (sym w.in-Some.ensures.value) in
+          let at = held-at old.answer catalogue views i c.loop-index.views.held.entries w.in-Some.view.now c.loop-index.invariant.grown (sym w.in-Some.ensures.value) in
           let gave = Gave-behind plain_faults Memory catalogue {A = ViewDef} first (growth_questions catalogue at.held) (λ (a : Answering). whole_view a catalogue at.held.1.query) w.grow.new.self
           old middle new c.loop-index.invariant.asked (rw at.same at w.in_ok-grow.ensures.grows) in
           let next : suc i ≡ i + 1 = omega arith in
@@ -66,11 +66,11 @@ loop-index-preserved g c =
             grown = ap (λ (entries : List HeldView). set_value_at entries i w.grow.new.self) c.loop-index.invariant.grown
                 ∙ ap (set_value_at (grown_up_to old.answer catalogue i views) i) gave.is_value ∙ set-up_to old.answer catalogue views i at.held at.there
                 ∙ ap (λ (n : ℕ). grown_up_to old.answer catalogue n views) next;
-            stand = stand-set old.answer catalogue c.loop-index.views.entries i w.grow.new.self c.loop-index.invariant.stand
+            stand = stand-set old.answer catalogue c.loop-index.views.held.entries i w.grow.new.self c.loop-index.invariant.stand
                 (subst (λ answer. Stands answer catalogue w.grow.new.self) (gave.asked.keeps.answer ∙ c.loop-index.invariant.asked.keeps.answer) w.in_ok-grow.ensures.stands);
           }))
       | in_default w ↦
-          let within : i < length c.loop-index.views.entries =
+          let within : i < length c.loop-index.views.held.entries =
           omega (arith, c.loop-index-test.true, c.len-index-end.ensures.len, ap length c.loop-index.invariant.grown, length-up_to old.answer catalogue views i) in
           absurd (false≢true (w.in_default.ensures.found.1 within))
     ]
@@ -79,11 +79,11 @@ pub returns : goal.returns
 returns g c =
     let old = g.S.Scorer.state c.args.scorer.now in
     let catalogue = c.args.catalog.now in
-    let views = c.args.views.now.entries in
+    let views = c.args.views.now.held.entries in
     let i = c.loop-index.index in
     let all : length views ≤ i = omega (arith, c.loop-index-test.false, c.len-index-end.ensures.len) in record {
       grows = Ended-behind plain_faults Memory catalogue {A = List HeldView} (flat_map (growth_questions catalogue) (take i views)) (flat_map (growth_questions catalogue) views)
-          (map (grown_view old.answer catalogue) views) c.loop-index.views.entries old (g.S.Scorer.state c.loop-index.scorer)
+          (map (grown_view old.answer catalogue) views) c.loop-index.views.held.entries old (g.S.Scorer.state c.loop-index.scorer)
           (ap (flat_map (growth_questions catalogue)) (sym (take_all i views all)))
           (c.loop-index.invariant.grown ∙ all-up_to old.answer catalogue views i all) c.loop-index.invariant.asked;
       stand = c.loop-index.invariant.stand;

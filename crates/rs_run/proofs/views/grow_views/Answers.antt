@@ -19,7 +19,7 @@ returns-in-Ok g c =
     let before = g.S.Scorer.state c.args.scorer.now in
     let after = g.S.Scorer.state c.grow_all.new.scorer in
     let catalogue = c.args.catalog.now in
-    let left = c.grow_all.new.views.entries in record {
+    let left = c.grow_all.new.views.held.entries in record {
       grows = λ beside.
           let old = record beside { scorer = before } in
           let new = record beside { scorer = after } in
@@ -34,7 +34,7 @@ returns-in-Err g c =
     let after = g.S.Scorer.state c.grow_all.new.scorer in
     let catalogue = c.args.catalog.now in record {
       grows = λ beside.
-          Stepped-unasked (λ grown. []) (grown_outcome catalogue) plain.Memory (growing_all before.answer catalogue (views_in c.args.held.now)) (kept_of catalogue c.grow_all.new.views.entries)
+          Stepped-unasked (λ grown. []) (grown_outcome catalogue) plain.Memory (growing_all before.answer catalogue (views_in c.args.held.now)) (kept_of catalogue c.grow_all.new.views.held.entries)
           (record beside { scorer = before }) after (query_fault catalogue) c.in-Err.why c.query_fault.result refl refl refl
           (Probes-questions plain_faults (query_fault catalogue) catalogue (λ number. refl) _) c.in-Err.ensures.grows c.query_fault.ensures;
       stand = tt;

@@ -1,5 +1,6 @@
 use Rattle.std.proofs.Common.{◌∙◌, ap, arith, length}
-use Rattle.rs_scores.proofs.PlaceFacts.{length-strip_bom, strip_bom-behind}
+use Rattle.rs_lines.proofs.RecordsFacts.{length-strip_bom}
+use Rattle.rs_scores.proofs.PlaceFacts.{strip_bom-behind}
 use Rattle.rs_scores.proofs.reading.read_into.Goals as goal
 
 pub read_behind-requires-clause-few : goal.read_behind-requires-clause-few

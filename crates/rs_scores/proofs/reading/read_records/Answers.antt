@@ -1,5 +1,5 @@
 use Rattle.std.proofs.Common.{arith}
-use Rattle.rs_scores.proofs.ReadingFacts.{length-records_of}
+use Rattle.rs_lines.proofs.RecordsFacts.{length-records_of}
 use Rattle.rs_scores.proofs.reading.read_records.Goals as goal
 
 pub overflow_add-number : goal.overflow_add-number

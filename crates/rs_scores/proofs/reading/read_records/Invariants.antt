@@ -1,5 +1,5 @@
 use Rattle.std.proofs.Common.{◌≡◌, ◌+◌, length}
-use Rattle.rs_table.specs.Records.{IsReading, records_left, records_of}
+use Rattle.rs_lines.specs.Records.{IsReading, records_left, records_of}
 use Rattle.rs_scores.proofs.ReadingFacts.{SoFar}
 use Rattle.rs_scores.proofs.reading.read_records.Given as goal
 

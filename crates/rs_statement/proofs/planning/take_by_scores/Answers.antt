@@ -7,12 +7,11 @@ use Rattle.rs_statement.specs.declared.sampling.Sampling.TheVariants.{ByScores}
 use Rattle.rs_statement.specs.Sampled.{sample_fault, sample_inquiry, sample_outcome}
 use Rattle.rs_events.proofs.InquirySteps.{Stepped-asked, Stepped-unasked}
 use Rattle.rs_events.proofs.RanFacts.{HasDone-none, Ran-all}
-use Rattle.rs_statement.proofs.SampleSteps.{names-sample, probes-sample}
+use Rattle.rs_statement.proofs.SampleSteps.{probes-sample}
 use Rattle.rs_statement.proofs.planning.take_by_scores.Goals as goal
 
 pub sample_fault-requires : goal.sample_fault-requires
-sample_fault-requires g c =
-    names-sample c.args.catalog.now c.args.query.now (ByScores c.args.seed) c.in-Err.why (g.S.Scorer.state c.args.scorer.now) (g.S.Scorer.state c.take.new.scorer) c.requires c.in-Err.ensures.asks
+sample_fault-requires g c = c.in-Err.ensures.names_predicate
 
 pub returns-in-Err-clause-calls : goal.returns-in-Err-clause-calls
 returns-in-Err-clause-calls g c = λ beside.

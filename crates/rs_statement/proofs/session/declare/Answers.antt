@@ -11,8 +11,8 @@ use Rattle.rs_statement.proofs.session.declare.Goals as goal
 pub returns-in-Plainly : goal.returns-in-Plainly
 returns-in-Plainly g c =
     let answer = (g.S.Scorer.state c.args.scorer.now).answer in
-    let state = state_of c.args.catalog.now c.args.session.now.cursors.entries in
-    let entries = c.declare_ready.new.session.cursors.entries in
+    let state = state_of c.args.catalog.now c.args.session.now.cursors.held.entries in
+    let entries = c.declare_ready.new.session.cursors.held.entries in
     let left = state_of c.args.catalog.now entries in record {
       opens = λ beside. subst (λ evaluating. Stepped (λ step. step ≡ declare_step evaluating answer state c.args.name.now (query_of c.args.select.now)) left c.declare_ready.result
           (record beside { scorer = g.S.Scorer.state c.args.scorer.now }) (record beside { scorer = g.S.Scorer.state c.declare_ready.new.scorer })) (sym c.in-Plainly.is) (c.declare_ready.ensures.opens beside);
@@ -24,8 +24,8 @@ returns-in-Plainly g c =
 pub returns-in-Planned : goal.returns-in-Planned
 returns-in-Planned g c =
     let answer = (g.S.Scorer.state c.args.scorer.now).answer in
-    let state = state_of c.args.catalog.now c.args.session.now.cursors.entries in
-    let entries = c.declare_planned.new.session.cursors.entries in
+    let state = state_of c.args.catalog.now c.args.session.now.cursors.held.entries in
+    let entries = c.declare_planned.new.session.cursors.held.entries in
     let left = state_of c.args.catalog.now entries in
     let query = query_of c.args.select.now in record {
       opens = λ beside.

@@ -6,7 +6,7 @@ use Rattle.rs_catalog.specs.Catalog.{CatalogDef}
 use Rattle.rs_catalog.specs.Snapshot.{HaveRows, sizes_in, snapshot}
 use Rattle.rs_catalog.proofs.SnapshotFacts.{HaveRows-all, snapshot-all}
 use Rattle.rs_exec.specs.Cursors.{StandsFor}
-use Rattle.rs_statement.specs.Parts.Session.{CanAllBeAsked, state_of}
+use Rattle.rs_statement.specs.Parts.Session.{CanAllBeAsked, CanBeAsked, state_of}
 use Rattle.rs_statement.specs.Planned.{plan_for}
 use Rattle.rs_statement.specs.Sampled.{sample_step}
 use Rattle.rs_events.specs.Sequence.{still}
@@ -14,7 +14,7 @@ use Rattle.rs_statement.specs.Session.{ByPlan, declared_query, opened_step, with
 use Rattle.rs_statement.specs.declared.evaluating.Evaluating.TheVariants.{Planned}
 use Rattle.rs_statement.specs.declared.fault.Fault.TheVariants.{Memory}
 use Rattle.rs_statement.specs.declared.session.CursorRows.TheVariants as held
-use Rattle.rs_statement.proofs.SessionFacts.{asked-append}
+use Rattle.rs_statement.proofs.EntryFacts.{each-last}
 use Rattle.rs_statement.proofs.SessionSteps.{Opened-cut, Opened-planned, opened-planned}
 use Rattle.rs_events.proofs.SoFar.{Stepped-broken}
 use Rattle.rs_statement.proofs.StepFacts.{Stepped-bound, Stepped-refused}
@@ -23,7 +23,7 @@ use Rattle.rs_statement.proofs.session.declare_planned.Goals as goal
 pub returns-in_err-query : goal.returns-in_err-query
 returns-in_err-query g c =
     let answer = (g.S.Scorer.state c.args.scorer.now).answer in
-    let state = state_of c.args.catalog.now c.args.session.now.cursors.entries in
+    let state = state_of c.args.catalog.now c.args.session.now.cursors.held.entries in
     rw (given-err c.from_residual.result c.in_err-query.field-0.0 c.from_residual.ensures) (record {
       opens = λ beside. Stepped-refused (opened_step (Planned c.args.sampling) answer c.args.name.now.text state) (declared_query state c.args.name.now (query_of c.args.select.now)) c.in_err-query.field-0.0
           state (record beside { scorer = g.S.Scorer.state c.args.scorer.now }) c.in_err-query.ensures.gives;
@@ -37,7 +37,7 @@ pub returns-in_err-cursor : goal.returns-in_err-cursor
 returns-in_err-cursor g c =
     let answer = (g.S.Scorer.state c.args.scorer.now).answer in
     let catalogue = c.args.catalog.now in
-    let state = state_of catalogue c.args.session.now.cursors.entries in
+    let state = state_of catalogue c.args.session.now.cursors.held.entries in
     let name = c.args.name.now in
     let query = c.in_ok-query.query in
     rw (given-err c.from_residual-in_err-cursor.result c.in_err-cursor.field-0.0 c.from_residual-in_err-cursor.ensures) (record {
@@ -56,20 +56,20 @@ pub returns-in-Err : goal.returns-in-Err
 returns-in-Err g c =
     let answer = (g.S.Scorer.state c.args.scorer.now).answer in
     let catalogue = c.args.catalog.now in
-    let state = state_of catalogue c.args.session.now.cursors.entries in record {
+    let state = state_of catalogue c.args.session.now.cursors.held.entries in record {
       opens = λ beside. Opened-cut answer c.args.sampling c.args.name.now state (query_of c.args.select.now) c.in_ok-query.query state
           (record beside { scorer = g.S.Scorer.state c.args.scorer.now }) (record beside { scorer = g.S.Scorer.state c.start_planned.new.scorer }) c.in_ok-query.ensures.gives
           (c.in_ok-cursor.ensures.calls beside);
       asked = tt;
     }
 
-pub returns-in_err-open-in-Ok : goal.returns-in_err-open-in-Ok
-returns-in_err-open-in-Ok g c =
+pub returns-in_err-add-in-Ok : goal.returns-in_err-add-in-Ok
+returns-in_err-add-in-Ok g c =
     let answer = (g.S.Scorer.state c.args.scorer.now).answer in
     let catalogue = c.args.catalog.now in
-    let state = state_of catalogue c.args.session.now.cursors.entries in
-    rw (given-err c.from_residual-in_err-open-in-Ok.result Memory c.from_residual-in_err-open-in-Ok.ensures) (record {
-      opens = λ beside. Opened-cut answer c.args.sampling c.args.name.now state (query_of c.args.select.now) c.in_ok-query.query (state_of catalogue c.open.new.session.cursors.entries)
+    let state = state_of catalogue c.args.session.now.cursors.held.entries in
+    rw (given-err c.from_residual-in_err-add-in-Ok.result Memory c.from_residual-in_err-add-in-Ok.ensures) (record {
+      opens = λ beside. Opened-cut answer c.args.sampling c.args.name.now state (query_of c.args.select.now) c.in_ok-query.query (state_of catalogue c.add.new.self.held.entries)
           (record beside { scorer = g.S.Scorer.state c.args.scorer.now }) (record beside { scorer = g.S.Scorer.state c.start_planned.new.scorer }) c.in_ok-query.ensures.gives
           (c.in_ok-cursor.ensures.calls beside);
       asked = tt;
@@ -79,23 +79,23 @@ pub returns : goal.returns
 returns g c =
     let answer = (g.S.Scorer.state c.args.scorer.now).answer in
     let catalogue = c.args.catalog.now in
-    let entries = c.args.session.now.cursors.entries in
+    let entries = c.args.session.now.cursors.held.entries in
     let state = state_of catalogue entries in
     let name = c.args.name.now in
     let query = c.in_ok-query.query in
     let cursor = c.in_ok-cursor.cursor in
-    let left = c.open.new.session.cursors.entries in
+    let left = c.add.new.self.held.entries in
     let sizes = c.in-Ok.sizes in
     let sizes_are = c.in-Ok.ensures in
     let at = c.in_ok-cursor.ensures.starts in
-    let opened = c.in_ok-open-in-Ok.ensures.ok in record {
+    let opened = c.in_ok-add-in-Ok.ensures.ok in record {
       opens = λ beside. Opened-planned answer c.args.sampling name state (query_of c.args.select.now) query (state_of catalogue left)
           (record beside { scorer = g.S.Scorer.state c.args.scorer.now }) (record beside { scorer = g.S.Scorer.state c.start_planned.new.scorer }) c.in_ok-query.ensures.gives
           (c.in_ok-cursor.ensures.calls beside)
           (opened-planned catalogue entries left name.text (held.Asked cursor sizes) query (plan_for answer catalogue c.args.sampling query) (sizes_in catalogue) opened
           (λ i. ByPlan (at.query_is i) (at.plan_is i) (sizes_are i)) at.asks_are);
       asked = subst (CanAllBeAsked answer catalogue) (sym opened)
-          (asked-append answer catalogue entries name.text (held.Asked cursor sizes) c.requires.asked (
+          (each-last (CanBeAsked answer catalogue) entries name.text (held.Asked cursor sizes) c.requires.asked (
             subst (λ (s : List ℕ). HaveRows s catalogue.tables) (sym sizes_are) (HaveRows-all catalogue.tables),
             subst (λ (s : List ℕ). StandsFor (snapshot s catalogue) answer cursor) (sym sizes_are)
                 (subst (λ (seen : CatalogDef). StandsFor seen answer cursor) (sym (snapshot-all answer catalogue c.requires.held)) c.in_ok-cursor.ensures.stands),

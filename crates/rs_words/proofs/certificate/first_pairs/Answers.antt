@@ -1,7 +1,7 @@
 use Rattle.std.proofs.Common.{◌≡◌, ◌∙◌, ◌+◌, ◌<◌, suc, List, Some, None, Ok, length, ap, inl, inr, subst, sym, arith}
 use Rattle.rs_value.proofs.ResultFacts.{given-err}
-use Rattle.rs_cert_join.specs.Certs.{AreGiven}
-use Rattle.rs_cert_join.proofs.GivenFacts.{given-more, given-same}
+use Rattle.rs_words.specs.Certs.{AreGiven}
+use Rattle.rs_words.proofs.GivenFacts.{given-more, given-same}
 use Rattle.rs_feed.specs.declared.feed_row.FeedRow.{FeedRow}
 use Rattle.rs_feed_join.specs.declared.fault.JoinFault.TheVariants.{Memory}
 use Rattle.rs_feed_join.specs.Answers.{IsNext, MayBe}

@@ -1,5 +1,5 @@
 use Rattle.std.proofs.Common.{◌≡◌, List, false, length}
-use Rattle.rs_cert_join.specs.Certs.{AreGiven}
+use Rattle.rs_words.specs.Certs.{AreGiven}
 use Rattle.rs_feed.specs.declared.feed_row.FeedRow.{FeedRow}
 use Rattle.rs_feed_join.specs.Answers.{MayBe}
 use Rattle.rs_words.specs.Joining.{JoinLeaves}

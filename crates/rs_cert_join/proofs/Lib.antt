@@ -1,3 +1,0 @@
-pub mod GivenFacts
-pub mod GoodFacts
-pub mod SideFacts

@@ -1,5 +1,0 @@
-use Rattle.rs_cert_join.proofs.GoodFacts.{given-good}
-use Rattle.rs_cert_join.proofs.laws.given_pairs_are_good.Goals as goal
-
-pub returns : goal.returns
-returns c = λ join k pairs kept given enough. given-good join k pairs kept given enough
